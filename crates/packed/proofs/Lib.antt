@@ -1,0 +1,7 @@
+pub mod BitLaws
+pub mod FieldLaws
+pub mod FirstOne
+pub mod Judged
+pub mod Kept
+pub mod Stepped
+pub mod StillBytes

@@ -1,0 +1,3 @@
+pub mod Structure
+pub mod Next
+pub mod Paths

@@ -1,0 +1,7 @@
+// The meaning of models: structures, their limits, their paths. The definitions stand in specs/, the laws in proofs/.
+
+// The most states that a model may have. Every slice formula and every table takes its size from here.
+pub const MOST_STATES: u16 = 256;
+
+// The most propositions that a model may have.
+pub const MOST_PROPOSITIONS: u8 = 31;

@@ -1,0 +1,3 @@
+mod Writing
+mod Joining
+pub mod Lengths
