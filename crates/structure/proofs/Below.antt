@@ -49,3 +49,42 @@ count-le p (suc n) = let before = count-le p n in let one = at-most-one (p n) in
     at-most-one : (b : Bool) → cond b 1 0 ≤ 1
     at-most-one true = omega arith
     at-most-one false = omega arith
+
+one-le : (a b : Bool) → (a ≡ true → b ≡ true) → cond a 1 0 ≤ cond b 1 0
+one-le true true h = omega arith
+one-le true false h = absurd (true≢false (sym (h refl)))
+one-le false true h = omega arith
+one-le false false h = omega arith
+
+-- a test that passes where another does counts no less
+pub count-mono : (p q : ℕ → Bool) (n : ℕ) → ((k : ℕ) → k < n → p k ≡ true → q k ≡ true) → countBelow p n ≤ countBelow q n
+count-mono p q zero h = omega arith
+count-mono p q (suc n) h =
+    let before = count-mono p q n (λ k lt. h k (omega arith)) in
+    let here = one-le (p n) (q n) (h n (omega arith)) in
+    omega arith
+
+-- and more where it passes once more
+pub count-more : (p q : ℕ → Bool) (n j : ℕ) → ((k : ℕ) → k < n → p k ≡ true → q k ≡ true) → j < n → p j ≡ false → q j ≡ true → countBelow p n < countBelow q n
+count-more p q zero j h lt no′ yes′ = absurd (omega arith)
+count-more p q (suc n) j h lt no′ yes′ =
+    ⊎-elim
+    (λ e.
+    let before = count-mono p q n (λ k l. h k (omega arith)) in
+    let none : _≡_ {A = ℕ} (cond (p n) 1 0) 0 = ap (λ b. cond b 1 0) (subst (λ x. p x ≡ false) e no′) in
+    let some : _≡_ {A = ℕ} (cond (q n) 1 0) 1 = ap (λ b. cond b 1 0) (subst (λ x. q x ≡ true) e yes′) in
+    omega arith)
+    (λ ne.
+    let before = count-more p q n j (λ k l. h k (omega arith)) (omega arith) no′ yes′ in
+    let here = one-le (p n) (q n) (h n (omega arith)) in
+    omega arith)
+    (cases-eq j n)
+
+-- what passes once counts
+pub count-some : (p : ℕ → Bool) (n j : ℕ) → j < n → p j ≡ true → 1 ≤ countBelow p n
+count-some p zero j lt yes′ = absurd (omega arith)
+count-some p (suc n) j lt yes′ =
+    ⊎-elim
+    (λ e. let some : _≡_ {A = ℕ} (cond (p n) 1 0) 1 = ap (λ b. cond b 1 0) (subst (λ x. p x ≡ true) e yes′) in omega arith)
+    (λ ne. let before = count-some p n j (omega arith) yes′ in omega arith)
+    (cases-eq j n)

@@ -1,3 +1,4 @@
 pub mod Below
 pub mod Next
 pub mod StillKeeps
+pub mod Visited

@@ -1,0 +1,2 @@
+mod Ring
+mod Standing
