@@ -1,0 +1,61 @@
+-- What a reader must believe: the worked files of the documents, byte by byte, and the model that the first of them means.
+use Prim.Native.Nat.{ℕ}
+use mathlib.Core.Bool.{_&&_, _||_}
+use mathlib.Core.List.{List, [], _∷_}
+use lib.Dec.{eqb, ltb}
+use mathlib.Core.Path.{_≡_}
+use Rattle.std.specs.declared.result.Result.{Result}
+use Rattle.std.specs.declared.result.Result.the-variants.{Ok, Err}
+use Rattle.refusal.specs.Numbers.{numberOf}
+use Rattle.refusal.specs.declared.Refusal.{Refusal}
+use Rattle.refusal.specs.declared.Refusal.the-variants.{TooFewBytes, TooManyBytes, FillingBitSet, StartNotAState, StateWithoutStep}
+use Rattle.structure.specs.Structure.{Structure}
+use Rattle.packed.specs.Layout.{narrow}
+use Rattle.packed.specs.Verdict.{verdict}
+
+-- two states: proposition 0 is true at state 0, which steps to 0 and 1; state 1 steps to itself
+abbrev pub twoStates : List ℕ
+twoStates = 0x01 ∷ 0x00 ∷ 0x0F ∷ 0x20 ∷ []
+
+abbrev pub twoStatesModel : Structure
+twoStatesModel =
+    record {
+      states = 2;
+      start = 0;
+      propositions = 1;
+      label = λ s p. eqb s 0 && eqb p 0;
+      step = λ s t. (eqb s 0 && ltb t 2) || (eqb s 1 && eqb t 1);
+    }
+
+-- the still model
+abbrev pub stillFile : List ℕ
+stillFile = 0x00 ∷ 0x00 ∷ 0x04 ∷ []
+
+-- the first file without its last byte, with a byte more, with a filling bit, with a start that is no state, and with a state without a step
+abbrev pub shortFile : List ℕ
+shortFile = 0x01 ∷ 0x00 ∷ 0x0F ∷ []
+
+abbrev pub longFile : List ℕ
+longFile = 0x01 ∷ 0x00 ∷ 0x0F ∷ 0x20 ∷ 0x00 ∷ []
+
+abbrev pub filledFile : List ℕ
+filledFile = 0x01 ∷ 0x00 ∷ 0x0F ∷ 0x21 ∷ []
+
+abbrev pub strayFile : List ℕ
+strayFile = 0x01 ∷ 0x02 ∷ 0x0F ∷ 0x20 ∷ []
+
+abbrev pub stuckFile : List ℕ
+stuckFile = 0x01 ∷ 0x00 ∷ 0x0F ∷ 0x00 ∷ []
+
+-- each of these is refused for the cause that it was made for
+pub record Refused : Type 0 where
+  pub short : verdict narrow shortFile ≡ Err TooFewBytes
+  pub long : verdict narrow longFile ≡ Err TooManyBytes
+  pub filling : verdict narrow filledFile ≡ Err FillingBitSet
+  pub stray : verdict narrow strayFile ≡ Err StartNotAState
+  pub stepless : verdict narrow stuckFile ≡ Err StateWithoutStep
+
+-- what `inspect` says, as a number: 0 where it accepts
+abbrev pub spoken : Result (Unit {0}) Refusal → ℕ
+spoken (Ok _) = 0
+spoken (Err cause) = numberOf cause
