@@ -12,6 +12,7 @@ use std::test::*;
 
 // The bytes of a file of 256 states with 31 propositions, and with none.
 const LARGEST: usize = 9187;
+
 const UNLABELLED: usize = 8195;
 
 // Sets a bit of a file, counted from the most significant of its first byte.
@@ -27,7 +28,14 @@ fn ring(bytes: &mut [u8], states: u16, propositions: u8) {
     for s in 0..states {
         let steps = 21 + usize::from(s) * width + usize::from(propositions);
         let last = s + 1 == states;
-        set_bit(bytes, if last { steps } else { steps + usize::from(s) + 1 });
+        set_bit(
+            bytes,
+            if last {
+                steps
+            } else {
+                steps + usize::from(s) + 1
+            },
+        );
         if last && propositions > 0 {
             set_bit(bytes, steps - 1);
         }
@@ -47,9 +55,22 @@ fn largest_model() -> Result<(), Fail> {
     ring(&mut bytes, 256, 31);
     check_eq(inspect(&bytes), Ok(()))?;
     let model = open(&bytes);
-    check_eq((model.states(), model.start(), model.propositions()), (256, 0, 31))?;
-    check_eq((model.holds(255, 30), model.holds(255, 29), model.holds(254, 30)), (true, false, false))?;
-    check_eq((model.next(255, 0), model.next(0, 1), model.next(0, 2)), (Some(0), Some(1), None))?;
+    check_eq(
+        (model.states(), model.start(), model.propositions()),
+        (256, 0, 31),
+    )?;
+    check_eq(
+        (
+            model.holds(255, 30),
+            model.holds(255, 29),
+            model.holds(254, 30),
+        ),
+        (true, false, false),
+    )?;
+    check_eq(
+        (model.next(255, 0), model.next(0, 1), model.next(0, 2)),
+        (Some(0), Some(1), None),
+    )?;
     let mut scratch = [7u16; 1024];
     check_eq(reach(&model, &mut scratch), Ok(256))?;
     check_eq(scratch, [0; 1024])
@@ -75,7 +96,10 @@ fn lengths_of_a_file() -> Result<(), Fail> {
     ring(&mut bytes, 256, 0);
     check_eq(inspect(&bytes), Err(Refusal::TooManyBytes))?;
     check_eq(inspect(front(&bytes, UNLABELLED)), Ok(()))?;
-    check_eq(inspect(front(&bytes, UNLABELLED - 1)), Err(Refusal::TooFewBytes))?;
+    check_eq(
+        inspect(front(&bytes, UNLABELLED - 1)),
+        Err(Refusal::TooFewBytes),
+    )?;
     check_eq(inspect(front(&bytes, 2)), Err(Refusal::TooFewBytes))?;
     check_eq(inspect(&[]), Err(Refusal::TooFewBytes))?;
     check_eq(open(front(&bytes, UNLABELLED)).propositions(), 0)?;
@@ -86,10 +110,22 @@ fn lengths_of_a_file() -> Result<(), Fail> {
 #[test]
 fn first_cause() -> Result<(), Fail> {
     check_eq(inspect(&[0x01, 0x02, 0x0f]), Err(Refusal::TooFewBytes))?;
-    check_eq(inspect(&[0x01, 0x02, 0x0f, 0x01, 0x00]), Err(Refusal::TooManyBytes))?;
-    check_eq(inspect(&[0x01, 0x02, 0x0f, 0x01]), Err(Refusal::FillingBitSet))?;
-    check_eq(inspect(&[0x01, 0x02, 0x0f, 0x00]), Err(Refusal::StartNotAState))?;
-    check_eq(inspect(&[0x01, 0x01, 0x0f, 0x00]), Err(Refusal::StateWithoutStep))
+    check_eq(
+        inspect(&[0x01, 0x02, 0x0f, 0x01, 0x00]),
+        Err(Refusal::TooManyBytes),
+    )?;
+    check_eq(
+        inspect(&[0x01, 0x02, 0x0f, 0x01]),
+        Err(Refusal::FillingBitSet),
+    )?;
+    check_eq(
+        inspect(&[0x01, 0x02, 0x0f, 0x00]),
+        Err(Refusal::StartNotAState),
+    )?;
+    check_eq(
+        inspect(&[0x01, 0x01, 0x0f, 0x00]),
+        Err(Refusal::StateWithoutStep),
+    )
 }
 
 #[test]
@@ -97,11 +133,20 @@ fn slices_a_place_short() -> Result<(), Fail> {
     let file = [0x01, 0x00, 0x0f, 0x20];
     let mut line = [b'.'; 1024];
     let mut scratch = [7u16; 8];
-    check_eq(reach(&open(&file), &mut scratch[0..7]), Err(Refusal::SliceTooSmall))?;
+    check_eq(
+        reach(&open(&file), &mut scratch[0..7]),
+        Err(Refusal::SliceTooSmall),
+    )?;
     check_eq(scratch, [0, 0, 0, 0, 0, 0, 0, 7])?;
-    check_eq(headline(&file, &mut line[0..1023], &mut scratch), Err(Refusal::SliceTooSmall))?;
+    check_eq(
+        headline(&file, &mut line[0..1023], &mut scratch),
+        Err(Refusal::SliceTooSmall),
+    )?;
     check_eq(scratch, [0; 8])?;
-    check_eq(headline(&file, &mut line, &mut scratch[0..7]), Err(Refusal::SliceTooSmall))?;
+    check_eq(
+        headline(&file, &mut line, &mut scratch[0..7]),
+        Err(Refusal::SliceTooSmall),
+    )?;
     check_eq(line, [b'.'; 1024])?;
     check_eq(headline(&file, &mut line, &mut scratch), Ok(36))?;
     check(line.starts_with(b"states 2 reachable 2 propositions 1\n."))?;
@@ -115,8 +160,29 @@ fn absent_states() -> Result<(), Fail> {
     let model = open(&[0x01, 0x00, 0x0e, 0x20]);
     let mut scratch = [0u16; 8];
     check_eq(reach(&model, &mut scratch), Ok(1))?;
-    check_eq((model.next(0, 0), model.next(0, 1), model.next(1, 0), model.next(1, 2)), (Some(0), None, Some(1), None))?;
-    check_eq((model.next(2, 0), model.next(65535, 0), model.next(0, 65535)), (None, None, None))?;
-    check_eq((model.holds(0, 0), model.holds(1, 0), model.holds(2, 0)), (true, false, false))?;
-    check_eq((model.holds(0, 1), model.holds(0, 255), model.holds(65535, 0)), (false, false, false))
+    check_eq(
+        (
+            model.next(0, 0),
+            model.next(0, 1),
+            model.next(1, 0),
+            model.next(1, 2),
+        ),
+        (Some(0), None, Some(1), None),
+    )?;
+    check_eq(
+        (model.next(2, 0), model.next(65535, 0), model.next(0, 65535)),
+        (None, None, None),
+    )?;
+    check_eq(
+        (model.holds(0, 0), model.holds(1, 0), model.holds(2, 0)),
+        (true, false, false),
+    )?;
+    check_eq(
+        (
+            model.holds(0, 1),
+            model.holds(0, 255),
+            model.holds(65535, 0),
+        ),
+        (false, false, false),
+    )
 }
