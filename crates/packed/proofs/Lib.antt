@@ -1,4 +1,5 @@
 pub mod BitLaws
+pub mod Causes
 pub mod FieldLaws
 pub mod FirstOne
 pub mod Judged

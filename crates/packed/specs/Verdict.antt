@@ -33,6 +33,27 @@ module _ (w : Widths) (bytes : List ℕ) where
       (cond (leb (statesOf w bytes) (startOf w bytes)) (Err StartNotAState)
       (cond stuck (Err StateWithoutStep) (Ok tt)))))
 
+  -- the file has as many bytes as its layout takes
+  abbrev pub Exact : Type 0
+  Exact = length bytes ≡ sizeOf w bytes
+
+  -- every bit after the layout's last is 0
+  abbrev pub ZeroFilled : Type 0
+  ZeroFilled = (i : ℕ) → bitsOf w bytes ≤ i → i < 8 * length bytes → bitAt bytes i ≡ false
+
+  -- state s has a step
+  abbrev pub GoesOn : ℕ → Type 0
+  GoesOn s = (t : ℕ) × (spells w bytes .step s t ≡ true)
+
   -- what the file opens as: the structure that it spells where it is accepted, else the still one
   abbrev pub opened : Structure
   opened = cond (isOk verdict) (spells w bytes) still
+
+-- what a verdict says of the file; a refusal also says that no cause before it applies
+pub data Judged (w : Widths) (bytes : List ℕ) : Result (Unit {0}) Refusal → Type 0 where
+  accepted : Exact w bytes → ZeroFilled w bytes → startOf w bytes < statesOf w bytes → ((s : ℕ) → s < statesOf w bytes → GoesOn w bytes s) → Judged w bytes (Ok tt)
+  too-few-bytes : length bytes < sizeOf w bytes → Judged w bytes (Err TooFewBytes)
+  too-many-bytes : sizeOf w bytes < length bytes → Judged w bytes (Err TooManyBytes)
+  filling-bit-set : Exact w bytes → (i : ℕ) → bitsOf w bytes ≤ i → i < 8 * length bytes → bitAt bytes i ≡ true → Judged w bytes (Err FillingBitSet)
+  start-not-a-state : Exact w bytes → ZeroFilled w bytes → statesOf w bytes ≤ startOf w bytes → Judged w bytes (Err StartNotAState)
+  state-without-step : Exact w bytes → ZeroFilled w bytes → startOf w bytes < statesOf w bytes → (s : ℕ) → s < statesOf w bytes → (GoesOn w bytes s → ⊥) → Judged w bytes (Err StateWithoutStep)

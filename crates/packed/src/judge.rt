@@ -3,7 +3,7 @@ ghost use Prim.Native.Nat.{_+_, _*_, _≤_, _<_};
 ghost use mathlib.Core.Path.{_≡_};
 ghost use lib.ListN.{length};
 ghost use Rattle.packed.specs.Layout.{narrow, sizeOf, bitsOf};
-ghost use Rattle.packed.specs.Verdict.{filled, stuck, verdict};
+ghost use Rattle.packed.specs.Verdict.{filled, stuck, verdict, Judged};
 use crate::Header;
 use crate::bit;
 use crate::first_one;
@@ -11,6 +11,14 @@ use refusal::Refusal;
 
 // Accepts a file, or says the first cause for which it is refused.
 pub fn inspect(bytes: &[u8]) -> Result<(), Refusal>
+    ensures value { λ r. ⌜ r ≡ verdict narrow (now (bytes .entry)) ⌝ }
+    ensures judged { λ r. ⌜ Judged narrow (now (bytes .entry)) r ⌝ }
+{
+    first_cause(bytes)
+}
+
+// The causes in their order, each judged over the whole file before the next.
+fn first_cause(bytes: &[u8]) -> Result<(), Refusal>
     ensures { λ r. ⌜ r ≡ verdict narrow (now (bytes .entry)) ⌝ }
 {
     let header = Header::read(bytes);

@@ -1,7 +1,16 @@
 // The meaning of models: structures, their limits, their paths. The definitions stand in specs/, the laws in proofs/.
+ghost use mathlib.Core.Path.{_≡_};
+ghost use Rattle.structure.specs.Structure.{mostStates, mostPropositions};
 
 // The most states that a model may have. Every slice formula and every table takes its size from here.
 pub const MOST_STATES: u16 = 256;
 
 // The most propositions that a model may have.
 pub const MOST_PROPOSITIONS: u8 = 31;
+
+// The two limits, which are those of the definitions.
+pub fn limits() -> (u16, u8)
+    ensures { λ r. ⌜ r ≡ (mostStates, mostPropositions) ⌝ }
+{
+    (MOST_STATES, MOST_PROPOSITIONS)
+}
