@@ -2,12 +2,12 @@
 use Prim.Native.Nat.{ℕ, zero, suc}
 use native.Mathlib.Omega.{arith}
 use mathlib.Core.Path.{_≡_, refl, sym, ap, _∙_}
-use mathlib.Core.Bool.{Bool, true, false, _&&_, _||_}
+use mathlib.Core.Bool.{false, _&&_}
 use lib.Dec.{ltb, eqb}
 use Rattle.std.specs.Results.{isOk}
 use Rattle.std.specs.declared.result.Result.the-variants.{Ok}
 use Rattle.std.proofs.shelf.Tests.{le-ltb, ne-eqb, and-left, or-from, cond-true}
-use Rattle.structure.specs.Structure.{Structure, still}
+use Rattle.structure.specs.Structure.{still}
 use Rattle.packed.specs.Bits.{bitOf, bitAt, numberAt}
 use Rattle.packed.specs.Layout.{narrow, statesOf, startOf, propositionsOf, rowOf, bitsOf, sizeOf, spells}
 use Rattle.packed.specs.Verdict.{filled, stuck, verdict, opened}

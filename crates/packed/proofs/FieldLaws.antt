@@ -1,12 +1,11 @@
 -- The three fixed fields of the narrow layout, by the bytes that hold them. Assumes nothing.
-use Prim.Native.Nat.{ℕ, suc, _+_, _*_, _/_, _≤_, _<_}
+use Prim.Native.Nat.{ℕ, suc, _+_, _*_, _/_, _<_}
 use native.Mathlib.Omega.{arith}
 use native.Mathlib.Numerals.{add-one}
 use native.Mathlib.Nat.{div-one}
 use mathlib.Core.Path.{_≡_, refl, sym, ap, _∙_}
 use mathlib.Core.List.{List}
 use lib.ListN.{getD}
-use Rattle.packed.specs.Bits.{numberAt}
 use Rattle.packed.specs.Layout.{narrow, statesOf, startOf, propositionsOf, rowOf}
 use Rattle.packed.proofs.BitLaws.{numberAt-byte}
 

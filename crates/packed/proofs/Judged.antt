@@ -1,5 +1,5 @@
 -- What the judge's two searches through bits tell: of the filling bits, and of states without a step. Assumes nothing.
-use Prim.Native.Nat.{ℕ, _+_, _-_, _*_, _≤_, _<_}
+use Prim.Native.Nat.{ℕ, _+_, _-_, _*_, _<_}
 use native.Mathlib.Omega.{arith}
 use native.Mathlib.Nat.{mul-comm}
 use mathlib.Core.Path.{_≡_, refl, sym, ap, subst, _∙_}
@@ -10,7 +10,7 @@ use lib.ListN.{length}
 use Rattle.std.specs.Options.{isSome}
 use Rattle.std.specs.declared.option.Option.{Option}
 use Rattle.std.specs.declared.option.Option.the-variants.{Some, None}
-use Rattle.std.proofs.shelf.Tests.{lt-ltb, ltb-true, and-from, and-parts, false≢true}
+use Rattle.std.proofs.shelf.Tests.{lt-ltb, ltb-true, and-parts, false≢true}
 use Rattle.structure.specs.Next.{Smallest}
 use Rattle.structure.specs.Paths.{anyBelow}
 use Rattle.structure.proofs.Below.{any-from, none-from}

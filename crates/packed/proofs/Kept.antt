@@ -1,20 +1,20 @@
 -- An accepted file spells a structure that keeps the limits. Assumes nothing.
-use Prim.Native.Nat.{ℕ, suc, _+_, _≤_, _<_}
+use Prim.Native.Nat.{ℕ, _+_, _≤_, _<_}
 use native.Mathlib.Omega.{arith}
-use mathlib.Core.Path.{_≡_, refl, sym, ap, _∙_}
+use mathlib.Core.Path.{_≡_, refl}
 use mathlib.Core.Bool.{Bool, true, false, cond, not, _&&_}
 use mathlib.Core.List.{List}
 use lib.Dec.{ltb, leb}
 use lib.ListN.{length}
 use Rattle.std.specs.Results.{isOk}
 use Rattle.std.specs.declared.result.Result.{Result}
-use Rattle.std.specs.declared.result.Result.the-variants.{Ok, Err}
+use Rattle.std.specs.declared.result.Result.the-variants.{Err}
 use Rattle.std.proofs.shelf.Tests.{ltb-true, leb-false, and-parts, not-false, false≢true}
 use Rattle.refusal.specs.declared.Refusal.{Refusal}
 use Rattle.structure.specs.Structure.{Limits}
 use Rattle.structure.specs.Paths.{anyBelow}
 use Rattle.structure.proofs.Below.{any-finds, none-below}
-use Rattle.packed.specs.Bits.{bitAt, numberAt}
+use Rattle.packed.specs.Bits.{bitAt}
 use Rattle.packed.specs.Layout.{narrow, statesOf, startOf, propositionsOf, rowOf, sizeOf, spells}
 use Rattle.packed.specs.Verdict.{filled, stuck, verdict}
 use Rattle.packed.proofs.BitLaws.{numberAt-below}

@@ -1,13 +1,13 @@
 -- The three bytes of the still model: they are accepted, and spell the still structure. Assumes nothing.
 use Prim.Native.Nat.{ℕ, zero, suc}
 use mathlib.Core.Path.{_≡_, refl, sym, _∙_}
-use mathlib.Core.Bool.{Bool, true, false, _&&_}
+use mathlib.Core.Bool.{true, false}
 use mathlib.Core.List.{List, [], _∷_}
 use native.Mathlib.Omega.{arith}
 use lib.Dec.{ltb, eqb}
 use Rattle.std.specs.Results.{isOk}
 use Rattle.std.proofs.shelf.Tests.{le-ltb, ne-eqb, and-left, and-right}
-use Rattle.structure.specs.Structure.{Structure, still}
+use Rattle.structure.specs.Structure.{still}
 use Rattle.packed.specs.Bits.{bitOf, bitAt, numberAt}
 use Rattle.packed.specs.Layout.{narrow, statesOf, startOf, propositionsOf, rowOf, bitsOf, sizeOf, spells}
 use Rattle.packed.specs.Verdict.{filled, stuck, verdict}

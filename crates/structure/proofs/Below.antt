@@ -1,10 +1,10 @@
 -- What `anyBelow` and `countBelow` tell of the numbers below n. Assumes nothing.
-use Prim.Native.Nat.{ℕ, zero, suc, _+_, _≤_, _<_}
+use Prim.Native.Nat.{ℕ, zero, suc, _≤_, _<_}
 use native.Mathlib.Omega.{arith}
-use mathlib.Core.Path.{_≡_, refl, sym, ap, subst, _∙_}
-use mathlib.Core.Bool.{Bool, true, false, cond, _||_}
-use mathlib.Core.Logic.{_⊎_, inl, inr, ⊎-elim}
-use Rattle.std.proofs.shelf.Tests.{cases-bool, cases-eq, or-left, or-right, or-from, or-cases, or-parts, cond-true, cond-false, true≢false}
+use mathlib.Core.Path.{_≡_, refl, sym, ap, subst}
+use mathlib.Core.Bool.{Bool, true, false, cond}
+use mathlib.Core.Logic.{_⊎_, ⊎-elim}
+use Rattle.std.proofs.shelf.Tests.{cases-eq, or-left, or-right, or-from, or-cases, or-parts, true≢false}
 use Rattle.structure.specs.Paths.{anyBelow, countBelow}
 
 module _ (test : ℕ → Bool) where

@@ -1,11 +1,9 @@
 -- The still structure keeps the limits. Assumes nothing.
-use Prim.Native.Nat.{ℕ, _<_}
 use native.Mathlib.Omega.{arith}
-use mathlib.Core.Path.{refl, sym}
-use mathlib.Core.Bool.{false, true}
+use mathlib.Core.Path.{refl}
+use mathlib.Core.Bool.{true}
 use lib.Dec.{eqb}
 use Rattle.std.proofs.shelf.Tests.{and-parts, eqb-true, eq-eqb, and-from, false≢true}
-use Rattle.std.proofs.shelf.Ways.{tells}
 use Rattle.structure.specs.Structure.{still, Limits}
 
 pub still-keeps : Limits still

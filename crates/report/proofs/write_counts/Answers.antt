@@ -1,4 +1,3 @@
-use mathlib.Core.Path.{ap}
 use native.Mathlib.Omega.{arith}
 use Rattle.report.specs.Headline.{countsLine}
 use Rattle.report.proofs.Lines.{written, length-countsLine}

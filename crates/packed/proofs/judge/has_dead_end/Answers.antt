@@ -1,10 +1,10 @@
-use Prim.Native.Nat.{ℕ, _+_, _*_, _<_}
-use mathlib.Core.Path.{_≡_, sym, ap, subst, _∙_}
+use Prim.Native.Nat.{_+_, _*_}
+use mathlib.Core.Path.{_≡_, sym, ap, _∙_}
 use mathlib.Core.Bool.{true}
 use native.Mathlib.Omega.{arith}
 use borrow.Author.Count.{below-more}
 use Rattle.packed.specs.Bits.{bitAt}
-use Rattle.packed.specs.Layout.{narrow, statesOf, propositionsOf, rowOf}
+use Rattle.packed.specs.Layout.{narrow, propositionsOf, rowOf}
 use Rattle.packed.proofs.FieldLaws.{rowOf-is}
 use Rattle.packed.proofs.Judged.{goes-by, stuck-from, not-stuck-from}
 use Rattle.packed.proofs.judge.has_dead_end.Needs as need

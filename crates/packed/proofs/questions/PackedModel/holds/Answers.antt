@@ -1,10 +1,10 @@
-use Prim.Native.Nat.{_+_, _*_, _<_}
-use mathlib.Core.Path.{_≡_, sym, ap, _∙_}
+use Prim.Native.Nat.{_+_, _*_}
+use mathlib.Core.Path.{sym, _∙_}
 use native.Mathlib.Omega.{arith}
 use lib.Dec.{ltb}
 use Rattle.std.proofs.shelf.Tests.{lt-ltb}
 use Rattle.packed.specs.Bits.{bitAt}
-use Rattle.packed.specs.Layout.{narrow, statesOf, propositionsOf, rowOf}
+use Rattle.packed.specs.Layout.{narrow, statesOf, propositionsOf}
 use Rattle.packed.proofs.FieldLaws.{rowOf-is}
 use Rattle.packed.proofs.Judged.{both-passed}
 use Rattle.packed.proofs.questions.PackedModel.holds.Needs as need

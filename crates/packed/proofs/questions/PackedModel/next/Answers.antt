@@ -1,4 +1,4 @@
-use Prim.Native.Nat.{ℕ, _+_, _*_, _-_, _<_, _≤_}
+use Prim.Native.Nat.{ℕ, _+_, _*_, _-_}
 use mathlib.Core.Path.{_≡_, sym, subst, _∙_}
 use mathlib.Core.Bool.{_&&_}
 use lib.Dec.{ltb}
@@ -10,7 +10,7 @@ use Rattle.std.specs.declared.option.Option.the-variants.{Some, None}
 use Rattle.structure.specs.Next.{Smallest}
 use Rattle.structure.proofs.Next.{nextOf-from-smallest}
 use Rattle.packed.specs.Bits.{bitAt}
-use Rattle.packed.specs.Layout.{narrow, statesOf, propositionsOf, rowOf, spells}
+use Rattle.packed.specs.Layout.{narrow, propositionsOf, rowOf, spells}
 use Rattle.packed.proofs.FieldLaws.{rowOf-is}
 use Rattle.packed.proofs.Kept.{spells-keeps, statesOf-small, propositionsOf-small}
 use Rattle.packed.proofs.Stepped.{no-state, next-step}
