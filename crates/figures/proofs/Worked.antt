@@ -12,7 +12,7 @@ use Rattle.packed.specs.Bits.{bitOf, bitAt, numberAt}
 use Rattle.packed.specs.Layout.{narrow, statesOf, startOf, propositionsOf, rowOf, bitsOf, sizeOf, spells}
 use Rattle.packed.specs.Verdict.{filled, stuck, verdict, opened}
 use Rattle.packed.proofs.StillBytes.{still-spelled}
-use Rattle.figures.specs.Files.{twoStates, twoStatesModel, stillFile, Refused}
+use Rattle.figures.specs.Files.{twoStates, twoStatesModel, stillFile, threeStates, sampleFile, ThreeStates, Sample, Refused}
 
 labels : (s p : ℕ) → spells narrow twoStates .label s p ≡ twoStatesModel .label s p
 unfolding bitOf bitAt numberAt statesOf startOf propositionsOf rowOf
@@ -56,6 +56,22 @@ still-accepted = refl
 
 pub still-open : opened narrow stillFile ≡ still
 still-open = cond-true (isOk (verdict narrow stillFile)) (spells narrow stillFile) still (ap isOk still-accepted) ∙ still-spelled
+
+pub three-states-accepted : verdict narrow threeStates ≡ Ok tt
+unfolding bitOf bitAt numberAt statesOf startOf propositionsOf rowOf bitsOf sizeOf filled stuck
+three-states-accepted = refl
+
+pub three-states-drawn : ThreeStates
+unfolding bitOf bitAt numberAt statesOf startOf propositionsOf rowOf bitsOf sizeOf filled stuck
+three-states-drawn = record { has-states = refl; has-start = refl; has-propositions = refl; has-rows = refl }
+
+pub sample-accepted : verdict narrow sampleFile ≡ Ok tt
+unfolding bitOf bitAt numberAt statesOf startOf propositionsOf rowOf bitsOf sizeOf filled stuck
+sample-accepted = refl
+
+pub sample-drawn : Sample
+unfolding bitOf bitAt numberAt statesOf startOf propositionsOf rowOf bitsOf sizeOf filled stuck
+sample-drawn = record { has-states = refl; has-start = refl; has-propositions = refl; has-rows = refl }
 
 pub refused-files : Refused
 unfolding bitOf bitAt numberAt statesOf startOf propositionsOf rowOf bitsOf sizeOf filled stuck

@@ -1,7 +1,7 @@
--- What a reader must believe: the worked files of the documents, byte by byte, and the model that the first of them means.
-use Prim.Native.Nat.{ℕ}
-use mathlib.Core.Bool.{_&&_, _||_}
-use mathlib.Core.List.{List, [], _∷_}
+-- What a reader must believe: the worked files of the documents, byte by byte, and the models that the accepted ones mean.
+use Prim.Native.Nat.{ℕ, zero, suc}
+use mathlib.Core.Bool.{Bool, cond, _&&_, _||_}
+use mathlib.Core.List.{List, [], _∷_, _++_}
 use lib.Dec.{eqb, ltb}
 use mathlib.Core.Path.{_≡_}
 use Rattle.std.specs.declared.result.Result.{Result}
@@ -11,7 +11,7 @@ use Rattle.refusal.specs.declared.Refusal.{Refusal}
 use Rattle.refusal.specs.declared.Refusal.the-variants.{TooFewBytes, TooManyBytes, FillingBitSet, StartNotAState, StateWithoutStep}
 use Rattle.structure.specs.Structure.{Structure}
 use Rattle.packed.specs.Layout.{narrow}
-use Rattle.packed.specs.Verdict.{verdict}
+use Rattle.packed.specs.Verdict.{verdict, opened}
 
 -- two states: proposition 0 is true at state 0, which steps to 0 and 1; state 1 steps to itself
 abbrev pub twoStates : List ℕ
@@ -30,6 +30,40 @@ twoStatesModel =
 -- the still model
 abbrev pub stillFile : List ℕ
 stillFile = 0x00 ∷ 0x00 ∷ 0x04 ∷ []
+
+-- three states: proposition 0 is true everywhere, state 0 steps to 1 and 2, which stay
+abbrev pub threeStates : List ℕ
+threeStates = 0x02 ∷ 0x00 ∷ 0x0D ∷ 0xD4 ∷ 0x80 ∷ []
+
+-- the sample model: the upload of a batch
+abbrev pub sampleFile : List ℕ
+sampleFile = 0x05 ∷ 0x00 ∷ 0x10 ∷ 0xC0 ∷ 0x20 ∷ 0x34 ∷ 0x08 ∷ 0x0A ∷ 0x08 ∷ []
+
+-- the numbers below n that pass the test, in their order
+abbrev pub those : (ℕ → Bool) → ℕ → List ℕ
+those test zero = []
+those test (suc n) = those test n ++ cond (test n) (n ∷ []) []
+
+-- a structure as a table: for each of its first n states the propositions true there, and the states to which it has a step
+abbrev pub rows : Structure → ℕ → List (List ℕ × List ℕ)
+rows S zero = []
+rows S (suc n) = rows S n ++ ((those (S .label n) (S .propositions), those (S .step n) (S .states)) ∷ [])
+
+pub record Drawn (S : Structure) (states start propositions : ℕ) (table : List (List ℕ × List ℕ)) : Type 0 where
+  pub has-states : S .states ≡ states
+  pub has-start : S .start ≡ start
+  pub has-propositions : S .propositions ≡ propositions
+  pub has-rows : rows S states ≡ table
+
+abbrev pub ThreeStates : Type 0
+ThreeStates =
+    Drawn (opened narrow threeStates) 3 0 1
+    ((0 ∷ [], 1 ∷ 2 ∷ []) ∷ (0 ∷ [], 1 ∷ []) ∷ (0 ∷ [], 2 ∷ []) ∷ [])
+
+abbrev pub Sample : Type 0
+Sample =
+    Drawn (opened narrow sampleFile) 6 0 2
+    (([], 1 ∷ 2 ∷ []) ∷ ([], 3 ∷ []) ∷ ([], 3 ∷ 4 ∷ []) ∷ (0 ∷ [], 5 ∷ []) ∷ ([], 5 ∷ []) ∷ (1 ∷ [], 5 ∷ []) ∷ [])
 
 -- the first file without its last byte, with a byte more, with a filling bit, with a start that is no state, and with a state without a step
 abbrev pub shortFile : List ℕ

@@ -3,20 +3,19 @@ use report::LINE_ROOM;
 use report::headline;
 use std::error::AnyError;
 use std::fs;
-use std::io;
 use std::io::ErrorKind;
 use std::io::Write;
 use structure::MOST_STATES;
 
 // The bytes of the file, none where it is missing.
-fn read_model(rt: &LibcRuntime) -> io::Result<Vec<u8>> {
+fn read_model(rt: &LibcRuntime) -> Result<Vec<u8>, AnyError> {
     match fs::read(rt, "model.bin") {
         Ok(bytes) => Ok(bytes),
         Err(error) => {
             if error.kind() == ErrorKind::NotFound {
                 return Ok(Vec::new(rt.alloc()));
             }
-            Err(error)
+            Err(format!(rt.alloc(), "model.bin: {error}")?.into())
         }
     }
 }
@@ -30,10 +29,17 @@ fn run(rt: &LibcRuntime) -> Result<(), AnyError> {
             rt.stdout().write_all(&line[0..length])?;
             Ok(())
         }
+        // Both slices are as long as any file asks for.
         Err(_) => Err("a slice is too small".into()),
     }
 }
 
 fn main(rt: LibcRuntime) -> Result<(), AnyError> {
-    rt.report(run(&rt))
+    match run(&rt) {
+        Ok(()) => Ok(()),
+        Err(error) => {
+            eprintln!(rt, "gctl: {error}")?;
+            Err(error)
+        }
+    }
 }

@@ -10,6 +10,7 @@ impl Drop for Scratch<'_> {
         ensures { λ _. ⌜ now (self .exit .0) ≡ replicate (length (now (self .entry .0))) 0 ⌝ }
     {
         clear(&mut *self.0);
+        // Takes the guard apart, so that it is not dropped again.
         let Scratch(_) = self;
     }
 }

@@ -4,7 +4,7 @@ use native.Mathlib.Omega.{arith}
 use native.Mathlib.Nat.{zero-div}
 use native.Mathlib.Numerals.{add-one}
 use mathlib.Core.Path.{_≡_, refl, sym, ap, _∙_}
-use mathlib.Core.Bool.{Bool, true, false, cond}
+use mathlib.Core.Bool.{true, false, cond}
 use mathlib.Core.List.{List}
 use mathlib.Core.Logic.{_⊎_, ⊎-elim}
 use lib.Bits.{bitAnd}
@@ -14,6 +14,7 @@ use lib.ListN.{getD}
 use lib.Pow.{pow-mono}
 use Rattle.std.proofs.shelf.Bits.{and-mask, pow-pos, pow-add, shr-shr, field-of, leading-top, div-add-mod', div-mul-add, mod-mul-add, div-below, le-div, mod-below, mod-pow-add}
 use Rattle.std.proofs.shelf.Tests.{eq-eqb, ne-eqb, cases-eq, cond-true, cond-false}
+use Rattle.structure.proofs.Below.{at-most-one}
 use Rattle.packed.specs.Bits.{bitOf, bitAt, numberAt}
 
 -- the last bit of a number, as the code takes it
@@ -126,7 +127,3 @@ numberAt-below bytes i (suc w) =
     let bit = at-most-one (bitAt bytes (i + w)) in
     let double : 2 ^ suc w ≡ 2 ^ w * 2 = ap (λ k. 2 ^ k) (sym (add-one w)) ∙ pow-add 2 w 1 in
     omega arith
-  where
-    at-most-one : (b : Bool) → cond b 1 0 ≤ 1
-    at-most-one true = omega arith
-    at-most-one false = omega arith

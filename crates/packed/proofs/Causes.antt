@@ -1,30 +1,19 @@
 -- The verdict says of a file what its cause means, in words of bits, states and steps. Assumes nothing.
 use Prim.Native.Nat.{ℕ, _+_, _-_, _*_, _<_}
 use native.Mathlib.Omega.{arith}
-use mathlib.Core.Path.{_≡_, sym, subst}
-use mathlib.Core.Bool.{Bool, true, false, cond, not, _&&_}
+use mathlib.Core.Path.{_≡_, subst}
+use mathlib.Core.Bool.{true, false, cond, not, _&&_}
 use mathlib.Core.List.{List}
-use mathlib.Core.Logic.{⊎-elim}
 use lib.Dec.{ltb, leb}
 use lib.ListN.{length}
-use Rattle.std.specs.declared.result.Result.{Result}
 use Rattle.std.specs.declared.result.Result.the-variants.{Ok, Err}
-use Rattle.std.proofs.shelf.Tests.{cases-bool, cond-true, cond-false, ltb-true, ltb-false, leb-true, leb-false, and-parts, not-true, not-false, both-ways}
-use Rattle.refusal.specs.declared.Refusal.{Refusal}
+use Rattle.std.proofs.shelf.Tests.{cond-both, ltb-true, ltb-false, leb-true, leb-false, and-parts, not-true, not-false, both-ways}
 use Rattle.refusal.specs.declared.Refusal.the-variants.{FillingBitSet, StateWithoutStep}
 use Rattle.structure.specs.Paths.{anyBelow}
 use Rattle.structure.proofs.Below.{any-finds, none-below}
 use Rattle.packed.specs.Bits.{bitAt}
 use Rattle.packed.specs.Layout.{Widths, statesOf, startOf, propositionsOf, rowOf, bitsOf, sizeOf, spells}
 use Rattle.packed.specs.Verdict.{filled, stuck, verdict, Exact, ZeroFilled, GoesOn, Judged, accepted, too-few-bytes, too-many-bytes, filling-bit-set, start-not-a-state, state-without-step}
-
--- a choice, judged on each side
-either : (w : Widths) (bytes : List ℕ) (b : Bool) (x y : Result (Unit {0}) Refusal) → (b ≡ true → Judged w bytes x) → (b ≡ false → Judged w bytes y) → Judged w bytes (cond b x y)
-either w bytes b x y yes′ no′ =
-    ⊎-elim
-    (λ e. subst (Judged w bytes) (sym (cond-true b x y e)) (yes′ e))
-    (λ e. subst (Judged w bytes) (sym (cond-false b x y e)) (no′ e))
-    (cases-bool b)
 
 module _ (w : Widths) (bytes : List ℕ) where
   zero-filled : filled w bytes ≡ false → ZeroFilled w bytes
@@ -53,7 +42,7 @@ module _ (w : Widths) (bytes : List ℕ) where
   last-cause : Exact w bytes → ZeroFilled w bytes → startOf w bytes < statesOf w bytes → Judged w bytes (cond (stuck w bytes) (Err StateWithoutStep) (Ok tt))
   unfolding stuck
   last-cause exact zeros start =
-      either w bytes (stuck w bytes) (Err StateWithoutStep) (Ok tt)
+      cond-both (stuck w bytes) (Err StateWithoutStep) (Ok tt) (Judged w bytes)
       (λ some.
       let found = any-finds (λ s. not (anyBelow (spells w bytes .step s) (statesOf w bytes))) (statesOf w bytes) some in
       state-without-step exact zeros start (found .0) (found .1) (no-step (found .0) (not-true (anyBelow (spells w bytes .step (found .0)) (statesOf w bytes)) (found .2))))
@@ -61,17 +50,17 @@ module _ (w : Widths) (bytes : List ℕ) where
 
   pub verdict-judges : Judged w bytes (verdict w bytes)
   verdict-judges =
-      either w bytes (ltb (length bytes) (sizeOf w bytes)) _ _
+      cond-both (ltb (length bytes) (sizeOf w bytes)) _ _ (Judged w bytes)
       (λ few. too-few-bytes (ltb-true (length bytes) (sizeOf w bytes) few))
       (λ enough.
-      either w bytes (ltb (sizeOf w bytes) (length bytes)) _ _
+      cond-both (ltb (sizeOf w bytes) (length bytes)) _ _ (Judged w bytes)
       (λ many. too-many-bytes (ltb-true (sizeOf w bytes) (length bytes) many))
       (λ no-more.
       let exact : length bytes ≡ sizeOf w bytes = omega (arith, ltb-false (length bytes) (sizeOf w bytes) enough, ltb-false (sizeOf w bytes) (length bytes) no-more) in
-      either w bytes (filled w bytes) _ _
+      cond-both (filled w bytes) _ _ (Judged w bytes)
       (λ some. some-filling some exact)
       (λ none.
       let zeros = zero-filled none in
-      either w bytes (leb (statesOf w bytes) (startOf w bytes)) _ _
+      cond-both (leb (statesOf w bytes) (startOf w bytes)) _ _ (Judged w bytes)
       (λ out. start-not-a-state exact zeros (leb-true (statesOf w bytes) (startOf w bytes) out))
       (λ inside. last-cause exact zeros (leb-false (statesOf w bytes) (startOf w bytes) inside)))))

@@ -26,3 +26,11 @@ module _ (bytes : List ℕ) where
   pub rowOf-is : (s : ℕ) → rowOf narrow bytes s ≡ 21 + s * (propositionsOf narrow bytes + statesOf narrow bytes)
   unfolding rowOf
   rowOf-is s = refl
+
+  -- where the row and the step bits of state s begin, from the fields as numbers
+  module _ (s states propositions : ℕ) (n : states ≡ statesOf narrow bytes) (p : propositions ≡ propositionsOf narrow bytes) where
+    pub row-from : (row : ℕ) → row ≡ 21 + s * (propositions + states) → row ≡ rowOf narrow bytes s
+    row-from row is = is ∙ (λ i. 21 + s * (p i + n i)) ∙ sym (rowOf-is s)
+
+    pub steps-from : (row width : ℕ) → row ≡ 21 + s * (propositions + states) → width ≡ propositions → row + width ≡ rowOf narrow bytes s + propositionsOf narrow bytes
+    steps-from row width is same = λ i. row-from row is i + (same ∙ p) i

@@ -21,12 +21,6 @@ use Rattle.packed.proofs.BitLaws.{bitAt-byte, leading-below, leading-is-one, b
 abbrev pub Zeros : List ℕ → ℕ → ℕ → Type 0
 Zeros bytes a b = (i : ℕ) → a ≤ i → i < b → bitAt bytes i ≡ false
 
--- a place of byte k, as one of the eight bits of the byte
-bit-of-place : (bytes : List ℕ) (k i : ℕ) → k * 8 ≤ i → i < k * 8 + 8 → bitAt bytes i ≡ bitOf (getD bytes k 0) (i - k * 8)
-bit-of-place bytes k i le lt =
-    let here : k * 8 + (i - k * 8) ≡ i = omega arith in
-    subst (λ x. bitAt bytes x ≡ bitOf (getD bytes k 0) (i - k * 8)) here (bitAt-byte bytes k (i - k * 8) (omega arith))
-
 module _ (bytes : List ℕ) (from to : ℕ) where
   -- the test that the search is for
   abbrev pub sought : ℕ → Bool
@@ -59,9 +53,6 @@ module _ (bytes : List ℕ) (from to : ℕ) where
             subst (λ x. bitAt bytes x ≡ false) here (is ∙ ap (λ x. bitOf x (i - k * 8)) none ∙ no-ones (i - k * 8))
 
     module _ (some : 0 < b) where
-      place : ℕ
-      place = k * 8 + leadingZeros 8 b
-
       first : (bitAt bytes (k * 8 + leadingZeros 8 b) ≡ true) × (from ≤ k * 8 + leadingZeros 8 b) × Zeros bytes from (k * 8 + leadingZeros 8 b)
       first =
           let below = leading-below b some (part .small) in

@@ -18,15 +18,13 @@ use Rattle.packed.specs.Bits.{bitAt}
 use Rattle.packed.specs.Layout.{narrow, statesOf, propositionsOf, rowOf, bitsOf, spells}
 use Rattle.packed.specs.Verdict.{filled, stuck}
 
--- `true && (true && b)` at tests that passed
-pub both-passed : (x y b : Bool) → x ≡ true → y ≡ true → (x && (y && b)) ≡ b
-both-passed true true b p q = refl
-both-passed true false b p q = absurd (false≢true q)
-both-passed false y b p q = absurd (false≢true p)
-
+-- a conjunction after tests that passed
 pub and-true : (x y : Bool) → x ≡ true → (x && y) ≡ y
 and-true true y p = refl
 and-true false y p = absurd (false≢true p)
+
+pub both-passed : (x y b : Bool) → x ≡ true → y ≡ true → (x && (y && b)) ≡ b
+both-passed x y b p q = and-true x (y && b) p ∙ and-true y b q
 
 module _ (bytes : List ℕ) where
   -- the first 1 among the filling bits is there exactly where one is set

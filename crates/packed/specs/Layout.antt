@@ -14,16 +14,20 @@ pub record Widths : Type 0 where
   pub start : ℕ
   pub propositions : ℕ
 
+-- the layout of today's files. The widths are a parameter so that a layout for more states can share the definitions
 abbrev pub narrow : Widths
 narrow = record { states = 8; start = 8; propositions = 5 }
 
 module _ (w : Widths) (bytes : List ℕ) where
+  -- the number of states
   unfoldable pub statesOf : ℕ
   statesOf = suc (numberAt bytes 0 (w .states))
 
+  -- the starting state
   unfoldable pub startOf : ℕ
   startOf = numberAt bytes (w .states) (w .start)
 
+  -- the number of propositions
   unfoldable pub propositionsOf : ℕ
   propositionsOf = numberAt bytes (w .states + w .start) (w .propositions)
 
@@ -39,6 +43,7 @@ module _ (w : Widths) (bytes : List ℕ) where
   unfoldable pub sizeOf : ℕ
   sizeOf = (bitsOf + 7) / 8
 
+  -- the structure that the bits spell; nothing outside its states and propositions is true
   abbrev pub spells : Structure
   spells =
       record {

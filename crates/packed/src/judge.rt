@@ -9,7 +9,7 @@ use crate::bit;
 use crate::first_one;
 use refusal::Refusal;
 
-// Accepts a file, or says the first cause for which it is refused.
+// Accepts a file, or says the first cause for which it is refused; and what that tells of the file.
 pub fn inspect(bytes: &[u8]) -> Result<(), Refusal>
     ensures value { λ r. ⌜ r ≡ verdict narrow (now (bytes .entry)) ⌝ }
     ensures judged { λ r. ⌜ Judged narrow (now (bytes .entry)) r ⌝ }

@@ -34,9 +34,7 @@ pub impl<'a> Model for Packed<'a> as PackedModel {
         }
         let steps = self.header.row(s) + usize::from(self.header.propositions);
         let end = steps + usize::from(self.header.states);
-        match first_one(self.bytes, steps + usize::from(t), end) {
-            Some(place) => Some((place - steps) as u16),
-            None => None,
-        }
+        let place = first_one(self.bytes, steps + usize::from(t), end)?;
+        Some((place - steps) as u16)
     }
 }

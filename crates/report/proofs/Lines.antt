@@ -14,7 +14,7 @@ use Rattle.std.specs.declared.result.Result.the-variants.{Ok, Err}
 use Rattle.std.proofs.shelf.Lists.{length-append}
 use Rattle.std.proofs.shelf.Tests.{le-leb, cond-true}
 use Rattle.refusal.specs.declared.Refusal.{Refusal}
-use Rattle.text.proofs.Lengths.{length-decimal-word}
+use Rattle.output.proofs.Lengths.{length-decimal-word}
 use Rattle.report.specs.Headline.{countsLine, refusalLine}
 
 pub written : (text line out out′ : List ℕ) (e : Refusal) (r : Result ℕ Refusal) → text ≡ line → length line ≤ length out → r ≡ cond (leb (length text) (length out)) (Ok (length text)) (Err e) → out′ ≡ cond (leb (length text) (length out)) (text ++ drop (length text) out) out → (r ≡ Ok (length line)) × made r (λ n. n ≤ length out) × (out′ ≡ line ++ drop (length line) out)

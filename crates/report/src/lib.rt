@@ -14,13 +14,13 @@ ghost use Rattle.packed.specs.Verdict.{verdict};
 ghost use Rattle.report.specs.Headline.{countsLine, refusalLine, headlineOf, suffices};
 use lent::scratch::Scratch;
 use model::Model;
+use output::Piece;
+use output::write_line;
 use packed::PackedModel;
 use packed::inspect;
 use packed::open;
 use reach::reach;
 use refusal::Refusal;
-use text::Piece;
-use text::write_line;
 
 // The bytes that a slice for a line needs.
 pub const LINE_ROOM: usize = 1024;

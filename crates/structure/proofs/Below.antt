@@ -42,13 +42,14 @@ count-same p q (suc n) h =
     let here : _≡_ {A = ℕ} (cond (p n) 1 0) (cond (q n) 1 0) = ap (λ b. cond b 1 0) (h n (omega arith)) in
     omega arith
 
+-- a test counts for one at most
+pub at-most-one : (b : Bool) → cond b 1 0 ≤ 1
+at-most-one true = omega arith
+at-most-one false = omega arith
+
 pub count-le : (p : ℕ → Bool) (n : ℕ) → countBelow p n ≤ n
 count-le p zero = omega arith
 count-le p (suc n) = let before = count-le p n in let one = at-most-one (p n) in omega arith
-  where
-    at-most-one : (b : Bool) → cond b 1 0 ≤ 1
-    at-most-one true = omega arith
-    at-most-one false = omega arith
 
 one-le : (a b : Bool) → (a ≡ true → b ≡ true) → cond a 1 0 ≤ cond b 1 0
 one-le true true h = omega arith

@@ -2,7 +2,7 @@
 ghost use mathlib.Core.Path.{_≡_};
 ghost use Rattle.structure.specs.Structure.{mostStates, mostPropositions};
 
-// The most states that a model may have. Every slice formula and every table takes its size from here.
+// The most states that a model may have. Who lends slices for models that it does not know takes their sizes from here.
 pub const MOST_STATES: u16 = 256;
 
 // The most propositions that a model may have.

@@ -1,21 +1,25 @@
 use mathlib.Core.List.{[], _∷_}
 use mathlib.Core.Path.{_∙_, ap}
 use Rattle.figures.specs.Files.{spoken}
-use Rattle.figures.proofs.Worked.{two-states-accepted, two-states-open, still-accepted, still-open, refused-files}
+use Rattle.figures.proofs.Worked.{two-states-accepted, two-states-open, still-accepted, still-open, three-states-accepted, three-states-drawn, sample-accepted, sample-drawn, refused-files}
 use Rattle.figures.proofs.packed_files.packed_figures.Needs as need
 
 pub returns : need.returns
 returns c =
     let one = c .judged .ensures ∙ ap spoken two-states-accepted in
     let two = c .judged-2 .ensures ∙ ap spoken still-accepted in
-    let three = c .judged-3 .ensures ∙ ap spoken (refused-files .short) in
-    let four = c .judged-4 .ensures ∙ ap spoken (refused-files .long) in
-    let five = c .judged-5 .ensures ∙ ap spoken (refused-files .filling) in
-    let six = c .judged-6 .ensures ∙ ap spoken (refused-files .stray) in
-    let seven = c .judged-7 .ensures ∙ ap spoken (refused-files .stepless) in
+    let three = c .judged-3 .ensures ∙ ap spoken three-states-accepted in
+    let four = c .judged-4 .ensures ∙ ap spoken sample-accepted in
+    let five = c .judged-5 .ensures ∙ ap spoken (refused-files .short) in
+    let six = c .judged-6 .ensures ∙ ap spoken (refused-files .long) in
+    let seven = c .judged-7 .ensures ∙ ap spoken (refused-files .filling) in
+    let eight = c .judged-8 .ensures ∙ ap spoken (refused-files .stray) in
+    let nine = c .judged-9 .ensures ∙ ap spoken (refused-files .stepless) in
     record {
-      numbers = λ i. one i ∷ two i ∷ three i ∷ four i ∷ five i ∷ six i ∷ seven i ∷ [];
+      numbers = λ i. one i ∷ two i ∷ three i ∷ four i ∷ five i ∷ six i ∷ seven i ∷ eight i ∷ nine i ∷ [];
       two-states = two-states-open;
       still = still-open;
+      three-states = three-states-drawn;
+      sample = sample-drawn;
       refused = refused-files;
     }

@@ -1,9 +1,9 @@
-use Prim.Native.Nat.{_+_, _*_}
-use mathlib.Core.Path.{sym, _∙_}
+use Prim.Native.Nat.{_+_}
+use mathlib.Core.Path.{ap, _∙_}
 use native.Mathlib.Omega.{arith}
 use Rattle.std.proofs.shelf.Bits.{mul-le}
-use Rattle.packed.specs.Layout.{narrow, statesOf, bitsOf}
-use Rattle.packed.proofs.FieldLaws.{rowOf-is}
+use Rattle.packed.specs.Layout.{narrow, rowOf, bitsOf}
+use Rattle.packed.proofs.FieldLaws.{row-from}
 use Rattle.packed.proofs.judge.bits.Needs as need
 
 pub returns : need.returns
@@ -13,6 +13,6 @@ returns c =
     let told = c .read-header .ensures in
     let most = mul-le (header .states) (header .propositions + header .states) 256 287 (told .small .0) (omega (arith, told .small)) in
     record {
-      value = c .row .ensures ∙ (λ i. 21 + told .states i * (told .propositions i + told .states i)) ∙ sym (rowOf-is (c .args .bytes .now) (statesOf narrow (c .args .bytes .now)));
+      value = row-from (c .args .bytes .now) (header .states) (header .states) (header .propositions) (told .states) (told .propositions) (c .row .result) (c .row .ensures) ∙ ap (rowOf narrow (c .args .bytes .now)) (told .states);
       bound = omega (arith, c .row .ensures);
     }

@@ -1,11 +1,11 @@
-use Prim.Native.Nat.{_+_, _*_}
+use Prim.Native.Nat.{_+_}
 use mathlib.Core.Path.{_≡_, sym, ap, _∙_}
 use mathlib.Core.Bool.{true}
 use native.Mathlib.Omega.{arith}
 use borrow.Author.Count.{below-more}
 use Rattle.packed.specs.Bits.{bitAt}
 use Rattle.packed.specs.Layout.{narrow, propositionsOf, rowOf}
-use Rattle.packed.proofs.FieldLaws.{rowOf-is}
+use Rattle.packed.proofs.FieldLaws.{steps-from}
 use Rattle.packed.proofs.Judged.{goes-by, stuck-from, not-stuck-from}
 use Rattle.packed.proofs.judge.has_dead_end.Needs as need
 use Rattle.packed.proofs.judge.has_dead_end.Needs.{After-from}
@@ -14,8 +14,7 @@ use Rattle.packed.proofs.judge.has_dead_end.Needs.{After-from}
 steps-at : (c : After-from) → c .row .result + c .from .result ≡ rowOf narrow (c .args .bytes .now) (c .states .s) + propositionsOf narrow (c .args .bytes .now)
 steps-at c =
     let told = c .read-header .ensures in
-    let row = c .row .ensures ∙ (λ i. 21 + c .states .s * (told .propositions i + told .states i)) ∙ sym (rowOf-is (c .args .bytes .now) (c .states .s)) in
-    λ i. row i + (c .from .ensures ∙ told .propositions) i
+    steps-from (c .args .bytes .now) (c .states .s) (c .read-header .result .states) (c .read-header .result .propositions) (told .states) (told .propositions) (c .row .result) (c .from .result) (c .row .ensures) (c .from .ensures)
 
 pub states-again : need.states-again
 states-again c =

@@ -1,5 +1,5 @@
-use Prim.Native.Nat.{ℕ, _+_, _*_, _-_}
-use mathlib.Core.Path.{_≡_, sym, subst, _∙_}
+use Prim.Native.Nat.{ℕ, _+_, _-_}
+use mathlib.Core.Path.{_≡_, sym, subst}
 use mathlib.Core.Bool.{_&&_}
 use lib.Dec.{ltb}
 use native.Mathlib.Omega.{arith}
@@ -11,7 +11,7 @@ use Rattle.structure.specs.Next.{Smallest}
 use Rattle.structure.proofs.Next.{nextOf-from-smallest}
 use Rattle.packed.specs.Bits.{bitAt}
 use Rattle.packed.specs.Layout.{narrow, propositionsOf, rowOf, spells}
-use Rattle.packed.proofs.FieldLaws.{rowOf-is}
+use Rattle.packed.proofs.FieldLaws.{steps-from}
 use Rattle.packed.proofs.Kept.{spells-keeps, statesOf-small, propositionsOf-small}
 use Rattle.packed.proofs.Stepped.{no-state, next-step}
 use Rattle.packed.proofs.questions.PackedModel.next.Needs as need
@@ -27,8 +27,7 @@ returns-then-s-self c =
 steps-at : (c : After-from-3) → c .row .result + c .from .result ≡ rowOf narrow (c .args .self .now .bytes .now) (c .args .s) + propositionsOf narrow (c .args .self .now .bytes .now)
 steps-at c =
     let file = c .args .self .now in
-    let row = c .row .ensures ∙ (λ i. 21 + c .args .s * (file .propositions i + file .states i)) ∙ sym (rowOf-is (file .bytes .now) (c .args .s)) in
-    λ i. row i + (c .from .ensures ∙ file .propositions) i
+    steps-from (file .bytes .now) (c .args .s) (file .header .states) (file .header .propositions) (file .states) (file .propositions) (c .row .result) (c .from .result) (c .row .ensures) (c .from .ensures)
 
 pub first-one-requires : need.first-one-requires
 first-one-requires c κs =
@@ -45,14 +44,14 @@ found c q told =
     next-step (file .bytes .now) (c .args .s) (c .args .t) steps end (omega (arith, c .if-s-self .left, file .states)) (steps-at c) (omega (arith, file .states, c .from-2 .ensures)) q
     (subst (λ t. Smallest (λ i. ltb i end && bitAt (file .bytes .now) i) (steps + t) q) (c .from-3 .ensures) told)
 
-pub returns-in-Some : need.returns-in-Some
-returns-in-Some c =
+pub returns : need.returns
+returns c =
     let file = c .args .self .now in
-    let some = found (need.at·returns-in-Some c .After-from-3) (Some (c .in-Some .place)) (c .in-Some .ensures tt) in
+    let some = found (need.at·returns c .After-from-3) (Some (c .in-Continue-place .place)) (c .in-Continue-place .ensures tt) in
     record { value = nextOf-from-smallest (spells narrow (file .bytes .now)) (spells-keeps (file .bytes .now) (file .accepted)) (c .args .s) (c .args .t) _ some; smallest = some }
 
-pub returns-in-None : need.returns-in-None
-returns-in-None c =
+pub returns-in-Break-place : need.returns-in-Break-place
+returns-in-Break-place c =
     let file = c .args .self .now in
-    let none = found (need.at·returns-in-None c .After-from-3) None (c .in-None .ensures tt) in
-    record { value = nextOf-from-smallest (spells narrow (file .bytes .now)) (spells-keeps (file .bytes .now) (file .accepted)) (c .args .s) (c .args .t) None none; smallest = none }
+    let none = subst (Smallest (spells narrow (file .bytes .now) .step (c .args .s)) (c .args .t)) (sym (c .from-residual .ensures)) (found (need.at·returns-in-Break-place c .After-from-3) None (c .in-Break-place .ensures tt)) in
+    record { value = nextOf-from-smallest (spells narrow (file .bytes .now)) (spells-keeps (file .bytes .now) (file .accepted)) (c .args .s) (c .args .t) (c .from-residual .result) none; smallest = none }

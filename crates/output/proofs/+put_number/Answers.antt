@@ -1,7 +1,7 @@
 -- The digits of the tenth, and then the last digit.
 use borrow.Author.Needs.{needs}
-use Rattle.text.proofs.Writing.{length-digit, length-tenth, paste-digit, paste-last}
-use Rattle.text.proofs.+put_number.Needs as need
+use Rattle.output.proofs.Writing.{length-digit, length-tenth, paste-digit, paste-last}
+use Rattle.output.proofs.+put_number.Needs as need
 
 pub put-number-last-requires : need.put-number-last-requires
 put-number-last-requires t c κs = search (needs, length-tenth)

@@ -10,7 +10,7 @@ ghost use Rattle.refusal.specs.declared.Refusal.the-variants.{SliceTooSmall};
 ghost use Rattle.std.specs.declared.option.Option.the-variants.{None, Some};
 ghost use Rattle.std.specs.declared.result.Result.the-variants.{Err, Ok};
 ghost use Rattle.std.specs.Written.{decimal};
-ghost use Rattle.text.specs.Pieces.{spelled, spelledAll};
+ghost use Rattle.output.specs.Pieces.{spelled, spelledAll};
 use refusal::Refusal;
 
 // One piece of an output line.

@@ -1,5 +1,5 @@
 -- The number falls.
-use Rattle.text.proofs.+put_number.Given as given
+use Rattle.output.proofs.+put_number.Given as given
 
 abbrev pub μ-put-number : given.MeasureT-put-number
 μ-put-number l = l .number

@@ -2,8 +2,8 @@
 use Prim.Native.Nat.{_≤_}
 use mathlib.Core.Path.{_≡_}
 use lib.ListN.{length, take}
-use Rattle.text.specs.Pieces.{spelledAll}
-use Rattle.text.proofs.measure.Given as given
+use Rattle.output.specs.Pieces.{spelledAll}
+use Rattle.output.proofs.measure.Given as given
 
 abbrev pub Inv-loop-piece : given.InvT-loop-piece
 Inv-loop-piece l = (l .total ≡ length (spelledAll (take (l .piece-index) (l .pieces)))) × (l .total ≤ l .limit)

@@ -1,8 +1,8 @@
 -- One more piece has room and goes behind the others; at the end all are written.
 use borrow.Author.Needs.{needs}
 use Rattle.std.proofs.shelf.Lists.{take-all}
-use Rattle.text.proofs.Joining.{spelledAll-more, length-more, length-first, front-more}
-use Rattle.text.proofs.put_pieces.Needs as need
+use Rattle.output.proofs.Joining.{spelledAll-more, length-more, length-first, front-more}
+use Rattle.output.proofs.put_pieces.Needs as need
 
 pub put-piece-at-requires : need.put-piece-at-requires
 put-piece-at-requires c κs = search (needs, length-more, length-first)

@@ -3,8 +3,8 @@ use native.Mathlib.Omega.{arith}
 use borrow.Author.Needs.{needs}
 use Rattle.std.proofs.shelf.Lists.{take-all}
 use Rattle.std.proofs.shelf.Ways.{tells}
-use Rattle.text.proofs.Joining.{length-more, length-first}
-use Rattle.text.proofs.measure.Needs as need
+use Rattle.output.proofs.Joining.{length-more, length-first}
+use Rattle.output.proofs.measure.Needs as need
 
 pub returns-in-Break-total : need.returns-in-Break-total
 returns-in-Break-total c = grind (arith, tells, length-more, length-first)

@@ -1,5 +1,5 @@
 -- The number falls.
-use Rattle.text.proofs.+digits.Given as given
+use Rattle.output.proofs.+digits.Given as given
 
 abbrev pub μ-digits : given.MeasureT-digits
 μ-digits l = l .number

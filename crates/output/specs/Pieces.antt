@@ -3,8 +3,8 @@ use Prim.Native.Nat.{ℕ}
 use mathlib.Core.List.{List}
 use Rattle.std.specs.Joined.{joined}
 use Rattle.std.specs.Written.{decimal}
-use Rattle.text.specs.declared.Piece.{Piece}
-use Rattle.text.specs.declared.Piece.the-variants.{Text, Number}
+use Rattle.output.specs.declared.Piece.{Piece}
+use Rattle.output.specs.declared.Piece.the-variants.{Text, Number}
 
 -- bytes as they are, a number in decimal
 abbrev pub spelled : Piece → List ℕ

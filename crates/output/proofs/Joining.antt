@@ -7,9 +7,9 @@ use lib.ListN.{length, getD, take, drop, length-append}
 use lib.Seq.{paste, drop-append-add}
 use Rattle.std.proofs.shelf.Lists.{take-more, take-at, take-all, drop-drop, joined-more}
 use Rattle.std.proofs.shelf.Sums.{sumBy-take-le}
-use Rattle.text.specs.declared.Piece.{Piece}
-use Rattle.text.specs.Pieces.{spelled, spelledAll}
-use Rattle.text.proofs.Lengths.{length-spelledAll}
+use Rattle.output.specs.declared.Piece.{Piece}
+use Rattle.output.specs.Pieces.{spelled, spelledAll}
+use Rattle.output.proofs.Lengths.{length-spelledAll}
 
 pub spelledAll-more : (ps : List Piece) (i : ℕ) (p : Piece) → i < length ps → spelledAll (take (i + 1) ps) ≡ spelledAll (take i ps) ++ spelled (getD ps i p)
 spelledAll-more ps i p h = ap spelledAll (take-more ps i p h) ∙ sym (joined-more spelled [] (take i ps) (getD ps i p))

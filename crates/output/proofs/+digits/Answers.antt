@@ -1,8 +1,8 @@
 -- A number has one digit, or one more than its tenth.
 use borrow.Author.Needs.{needs}
-use Rattle.text.proofs.Lengths.{length-decimal-word}
-use Rattle.text.proofs.Writing.{length-digit, length-tenth}
-use Rattle.text.proofs.+digits.Needs as need
+use Rattle.output.proofs.Lengths.{length-decimal-word}
+use Rattle.output.proofs.Writing.{length-digit, length-tenth}
+use Rattle.output.proofs.+digits.Needs as need
 
 pub add-result : need.add-result
 add-result t c = search (needs, length-decimal-word)
