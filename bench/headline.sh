@@ -1,6 +1,7 @@
 #!/bin/sh
 # Times gctl on full models of 256 states beside a plain C program on the same file, and beside a program that does nothing.
-# Needs cc, and target/bin/gctl (./run builds it). Prints milliseconds for each run of a whole process, and the ratio.
+# Needs cc, and target/bin/gctl (./run builds it). Prints milliseconds for each run of a whole process, the ratio to the C program, and
+# the same ratio less what the program that does nothing takes.
 set -eu
 root=$(cd "$(dirname "$0")/.." && pwd)
 gctl=$root/target/bin/gctl
@@ -41,14 +42,14 @@ dense() {
     awk 'BEGIN { printf "\\377\\000\\007"; for (i = 0; i < 8191; i++) printf "\\377"; printf "\\370" }'
 }
 
-printf '%-8s %12s %12s %12s %8s\n' model gctl plain nothing ratio
+printf '%-8s %12s %12s %12s %8s %8s\n' model gctl plain nothing ratio 'less it'
 for model in ring dense; do
     mkdir "$work/$model"
     cd "$work/$model"
     printf "$($model)" > model.bin
-    [ "$($gctl)" = "$("$work/plain")" ] || { echo "they differ on $model" >&2; exit 1; }
+    [ "$("$gctl")" = "$("$work/plain")" ] || { echo "they differ on $model" >&2; exit 1; }
     ours=$(each "$gctl")
     plain=$(each "$work/plain")
     nothing=$(each "$work/nothing")
-    awk -v m="$model" -v a="$ours" -v b="$plain" -v c="$nothing" 'BEGIN { printf "%-8s %9s ms %9s ms %9s ms %8.2f\n", m, a, b, c, a / b }'
+    awk -v m="$model" -v a="$ours" -v b="$plain" -v c="$nothing" 'BEGIN { printf "%-8s %9s ms %9s ms %9s ms %8.2f %8.2f\n", m, a, b, c, a / b, (a - c) / (b - c) }'
 done
