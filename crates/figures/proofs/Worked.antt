@@ -8,11 +8,12 @@ use Rattle.std.specs.Results.{isOk}
 use Rattle.std.specs.declared.result.Result.the-variants.{Ok}
 use Rattle.std.proofs.shelf.Tests.{le-ltb, ne-eqb, and-left, or-from, cond-true}
 use Rattle.structure.specs.Structure.{still}
+use Rattle.structure.specs.Paths.{visited, visitedCount}
 use Rattle.packed.specs.Bits.{bitOf, bitAt, numberAt}
 use Rattle.packed.specs.Layout.{narrow, statesOf, startOf, propositionsOf, rowOf, bitsOf, sizeOf, spells}
 use Rattle.packed.specs.Verdict.{filled, stuck, verdict, opened}
 use Rattle.packed.proofs.StillBytes.{still-spelled}
-use Rattle.figures.specs.Files.{twoStates, twoStatesModel, stillFile, threeStates, sampleFile, ThreeStates, Sample, Refused}
+use Rattle.figures.specs.Files.{twoStates, twoStatesModel, stillFile, threeStates, fullFile, looseFile, sampleFile, ThreeStates, FullFile, LooseFile, Sample, Reached, Refused}
 
 labels : (s p : ℕ) → spells narrow twoStates .label s p ≡ twoStatesModel .label s p
 unfolding bitOf bitAt numberAt statesOf startOf propositionsOf rowOf
@@ -73,6 +74,26 @@ pub sample-drawn : Sample
 unfolding bitOf bitAt numberAt statesOf startOf propositionsOf rowOf bitsOf sizeOf filled stuck
 sample-drawn = record { has-states = refl; has-start = refl; has-propositions = refl; has-rows = refl }
 
+pub full-accepted : verdict narrow fullFile ≡ Ok tt
+unfolding bitOf bitAt numberAt statesOf startOf propositionsOf rowOf bitsOf sizeOf filled stuck
+full-accepted = refl
+
+pub full-drawn : FullFile
+unfolding bitOf bitAt numberAt statesOf startOf propositionsOf rowOf bitsOf sizeOf filled stuck
+full-drawn = record { has-states = refl; has-start = refl; has-propositions = refl; has-rows = refl }
+
+pub loose-accepted : verdict narrow looseFile ≡ Ok tt
+unfolding bitOf bitAt numberAt statesOf startOf propositionsOf rowOf bitsOf sizeOf filled stuck
+loose-accepted = refl
+
+pub loose-drawn : LooseFile
+unfolding bitOf bitAt numberAt statesOf startOf propositionsOf rowOf bitsOf sizeOf filled stuck
+loose-drawn = record { has-states = refl; has-start = refl; has-propositions = refl; has-rows = refl }
+
+pub reached-states : Reached
+unfolding bitOf bitAt numberAt statesOf startOf propositionsOf rowOf bitsOf sizeOf filled stuck visited visitedCount
+reached-states = record { two-states = refl; three-states = refl; loose = refl; sample = refl }
+
 pub refused-files : Refused
 unfolding bitOf bitAt numberAt statesOf startOf propositionsOf rowOf bitsOf sizeOf filled stuck
-refused-files = record { short = refl; long = refl; filling = refl; stray = refl; stepless = refl }
+refused-files = record { short = refl; long = refl; filling = refl; first-filling = refl; stray = refl; stepless = refl }

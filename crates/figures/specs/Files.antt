@@ -10,6 +10,7 @@ use Rattle.refusal.specs.Numbers.{numberOf}
 use Rattle.refusal.specs.declared.Refusal.{Refusal}
 use Rattle.refusal.specs.declared.Refusal.the-variants.{TooFewBytes, TooManyBytes, FillingBitSet, StartNotAState, StateWithoutStep}
 use Rattle.structure.specs.Structure.{Structure}
+use Rattle.structure.specs.Paths.{visitedCount}
 use Rattle.packed.specs.Layout.{narrow}
 use Rattle.packed.specs.Verdict.{verdict, opened}
 
@@ -34,6 +35,14 @@ stillFile = 0x00 ∷ 0x00 ∷ 0x04 ∷ []
 -- three states: proposition 0 is true everywhere, state 0 steps to 1 and 2, which stay
 abbrev pub threeStates : List ℕ
 threeStates = 0x02 ∷ 0x00 ∷ 0x0D ∷ 0xD4 ∷ 0x80 ∷ []
+
+-- one state with both of two propositions and a step to itself: 24 bits, so that no bit is filling
+abbrev pub fullFile : List ℕ
+fullFile = 0x00 ∷ 0x00 ∷ 0x17 ∷ []
+
+-- two states of which the second is not visited: both step to themselves only
+abbrev pub looseFile : List ℕ
+looseFile = 0x01 ∷ 0x00 ∷ 0x0E ∷ 0x20 ∷ []
 
 -- the sample model: the upload of a batch
 abbrev pub sampleFile : List ℕ
@@ -60,12 +69,25 @@ ThreeStates =
     Drawn (opened narrow threeStates) 3 0 1
     ((0 ∷ [], 1 ∷ 2 ∷ []) ∷ (0 ∷ [], 1 ∷ []) ∷ (0 ∷ [], 2 ∷ []) ∷ [])
 
+abbrev pub FullFile : Type 0
+FullFile = Drawn (opened narrow fullFile) 1 0 2 ((0 ∷ 1 ∷ [], 0 ∷ []) ∷ [])
+
+abbrev pub LooseFile : Type 0
+LooseFile = Drawn (opened narrow looseFile) 2 0 1 ((0 ∷ [], 0 ∷ []) ∷ ([], 1 ∷ []) ∷ [])
+
+-- how many states paths from the start visit
+pub record Reached : Type 0 where
+  pub two-states : visitedCount (opened narrow twoStates) ≡ 2
+  pub three-states : visitedCount (opened narrow threeStates) ≡ 3
+  pub loose : visitedCount (opened narrow looseFile) ≡ 1
+  pub sample : visitedCount (opened narrow sampleFile) ≡ 6
+
 abbrev pub Sample : Type 0
 Sample =
     Drawn (opened narrow sampleFile) 6 0 2
     (([], 1 ∷ 2 ∷ []) ∷ ([], 3 ∷ []) ∷ ([], 3 ∷ 4 ∷ []) ∷ (0 ∷ [], 5 ∷ []) ∷ ([], 5 ∷ []) ∷ (1 ∷ [], 5 ∷ []) ∷ [])
 
--- the first file without its last byte, with a byte more, with a filling bit, with a start that is no state, and with a state without a step
+-- the first file without its last byte, with a byte more, with its last and with its first filling bit, with a start that is no state, and with a state without a step
 abbrev pub shortFile : List ℕ
 shortFile = 0x01 ∷ 0x00 ∷ 0x0F ∷ []
 
@@ -74,6 +96,9 @@ longFile = 0x01 ∷ 0x00 ∷ 0x0F ∷ 0x20 ∷ 0x00 ∷ []
 
 abbrev pub filledFile : List ℕ
 filledFile = 0x01 ∷ 0x00 ∷ 0x0F ∷ 0x21 ∷ []
+
+abbrev pub firstFilledFile : List ℕ
+firstFilledFile = 0x01 ∷ 0x00 ∷ 0x0F ∷ 0x30 ∷ []
 
 abbrev pub strayFile : List ℕ
 strayFile = 0x01 ∷ 0x02 ∷ 0x0F ∷ 0x20 ∷ []
@@ -86,6 +111,7 @@ pub record Refused : Type 0 where
   pub short : verdict narrow shortFile ≡ Err TooFewBytes
   pub long : verdict narrow longFile ≡ Err TooManyBytes
   pub filling : verdict narrow filledFile ≡ Err FillingBitSet
+  pub first-filling : verdict narrow firstFilledFile ≡ Err FillingBitSet
   pub stray : verdict narrow strayFile ≡ Err StartNotAState
   pub stepless : verdict narrow stuckFile ≡ Err StateWithoutStep
 

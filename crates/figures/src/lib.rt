@@ -1,4 +1,5 @@
-// The worked files of the documents, proved together; and tests at the edges of models and slices.
+// The worked figures of the documents, proved; and tests at the edges of models and slices.
 #[cfg(test)]
 mod edges;
 pub mod packed_files;
+pub mod refusal_table;

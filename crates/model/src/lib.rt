@@ -3,6 +3,10 @@ ghost use mathlib.Core.Path.{_≡_};
 ghost use Rattle.structure.specs.Structure.{Structure, Limits, still};
 ghost use Rattle.structure.specs.Next.{nextOf, Smallest};
 
+mod made;
+
+pub use made::still_model;
+
 pub trait Model {
     // The structure that the model stands for.
     ghost meaning: { Self → Structure };

@@ -1,5 +1,5 @@
 -- The verdict says of a file what its cause means, in words of bits, states and steps. Assumes nothing.
-use Prim.Native.Nat.{ℕ, _+_, _-_, _*_, _<_}
+use Prim.Native.Nat.{ℕ, _+_, _-_, _*_, _≤_, _<_}
 use native.Mathlib.Omega.{arith}
 use mathlib.Core.Path.{_≡_, subst}
 use mathlib.Core.Bool.{true, false, cond, not, _&&_}
@@ -7,6 +7,7 @@ use mathlib.Core.List.{List}
 use lib.Dec.{ltb, leb}
 use lib.ListN.{length}
 use Rattle.std.specs.declared.result.Result.the-variants.{Ok, Err}
+use Rattle.std.proofs.shelf.Bits.{div-add-mod', mod-below}
 use Rattle.std.proofs.shelf.Tests.{cond-both, ltb-true, ltb-false, leb-true, leb-false, and-parts, not-true, not-false, both-ways}
 use Rattle.refusal.specs.declared.Refusal.the-variants.{FillingBitSet, StateWithoutStep}
 use Rattle.structure.specs.Paths.{anyBelow}
@@ -16,6 +17,28 @@ use Rattle.packed.specs.Layout.{Widths, statesOf, startOf, propositionsOf, row
 use Rattle.packed.specs.Verdict.{filled, stuck, verdict, Exact, ZeroFilled, GoesOn, Judged, accepted, too-few-bytes, too-many-bytes, filling-bit-set, start-not-a-state, state-without-step}
 
 module _ (w : Widths) (bytes : List ℕ) where
+  -- a number of bytes by its bits: the last byte has a bit of the layout
+  fewer : length bytes < sizeOf w bytes → 8 * length bytes < bitsOf w bytes
+  unfolding sizeOf
+  fewer lt =
+      let whole = div-add-mod' (bitsOf w bytes + 7) 8 in
+      let rest = mod-below (bitsOf w bytes + 7) 8 (omega arith) in
+      omega arith
+
+  more : sizeOf w bytes < length bytes → bitsOf w bytes + 8 ≤ 8 * length bytes
+  unfolding sizeOf
+  more lt =
+      let whole = div-add-mod' (bitsOf w bytes + 7) 8 in
+      let rest = mod-below (bitsOf w bytes + 7) 8 (omega arith) in
+      omega arith
+
+  as-many : sizeOf w bytes ≤ length bytes → length bytes ≤ sizeOf w bytes → Exact w bytes
+  unfolding sizeOf
+  as-many low high =
+      let whole = div-add-mod' (bitsOf w bytes + 7) 8 in
+      let rest = mod-below (bitsOf w bytes + 7) 8 (omega arith) in
+      (omega arith, omega arith)
+
   zero-filled : filled w bytes ≡ false → ZeroFilled w bytes
   unfolding filled
   zero-filled none i le lt =
@@ -51,12 +74,12 @@ module _ (w : Widths) (bytes : List ℕ) where
   pub verdict-judges : Judged w bytes (verdict w bytes)
   verdict-judges =
       cond-both (ltb (length bytes) (sizeOf w bytes)) _ _ (Judged w bytes)
-      (λ few. too-few-bytes (ltb-true (length bytes) (sizeOf w bytes) few))
+      (λ few. too-few-bytes (fewer (ltb-true (length bytes) (sizeOf w bytes) few)))
       (λ enough.
       cond-both (ltb (sizeOf w bytes) (length bytes)) _ _ (Judged w bytes)
-      (λ many. too-many-bytes (ltb-true (sizeOf w bytes) (length bytes) many))
+      (λ many. too-many-bytes (more (ltb-true (sizeOf w bytes) (length bytes) many)))
       (λ no-more.
-      let exact : length bytes ≡ sizeOf w bytes = omega (arith, ltb-false (length bytes) (sizeOf w bytes) enough, ltb-false (sizeOf w bytes) (length bytes) no-more) in
+      let exact = as-many (ltb-false (length bytes) (sizeOf w bytes) enough) (ltb-false (sizeOf w bytes) (length bytes) no-more) in
       cond-both (filled w bytes) _ _ (Judged w bytes)
       (λ some. some-filling some exact)
       (λ none.

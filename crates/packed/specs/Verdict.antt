@@ -33,9 +33,9 @@ module _ (w : Widths) (bytes : List ℕ) where
       (cond (leb (statesOf w bytes) (startOf w bytes)) (Err StartNotAState)
       (cond stuck (Err StateWithoutStep) (Ok tt)))))
 
-  -- the file has as many bytes as its layout takes
+  -- the file has all bits of its layout, and less than a byte more
   abbrev pub Exact : Type 0
-  Exact = length bytes ≡ sizeOf w bytes
+  Exact = (bitsOf w bytes ≤ 8 * length bytes) × (8 * length bytes < bitsOf w bytes + 8)
 
   -- every bit after the layout's last is 0
   abbrev pub ZeroFilled : Type 0
@@ -52,8 +52,8 @@ module _ (w : Widths) (bytes : List ℕ) where
 -- what a verdict says of the file; a refusal also says that no cause before it applies
 pub data Judged (w : Widths) (bytes : List ℕ) : Result (Unit {0}) Refusal → Type 0 where
   accepted : Exact w bytes → ZeroFilled w bytes → startOf w bytes < statesOf w bytes → ((s : ℕ) → s < statesOf w bytes → GoesOn w bytes s) → Judged w bytes (Ok tt)
-  too-few-bytes : length bytes < sizeOf w bytes → Judged w bytes (Err TooFewBytes)
-  too-many-bytes : sizeOf w bytes < length bytes → Judged w bytes (Err TooManyBytes)
+  too-few-bytes : 8 * length bytes < bitsOf w bytes → Judged w bytes (Err TooFewBytes)
+  too-many-bytes : bitsOf w bytes + 8 ≤ 8 * length bytes → Judged w bytes (Err TooManyBytes)
   filling-bit-set : Exact w bytes → (i : ℕ) → bitsOf w bytes ≤ i → i < 8 * length bytes → bitAt bytes i ≡ true → Judged w bytes (Err FillingBitSet)
   start-not-a-state : Exact w bytes → ZeroFilled w bytes → statesOf w bytes ≤ startOf w bytes → Judged w bytes (Err StartNotAState)
   state-without-step : Exact w bytes → ZeroFilled w bytes → startOf w bytes < statesOf w bytes → (s : ℕ) → s < statesOf w bytes → (GoesOn w bytes s → ⊥) → Judged w bytes (Err StateWithoutStep)

@@ -1,8 +1,9 @@
 // Every cause for which a call of the checker says no, and the number that reports it.
+ghost use lib.Dec.{eqb};
 ghost use mathlib.Core.Path.{_≡_};
 ghost use Rattle.refusal.specs.Numbers.{numberOf};
 
-#[derive(Clone, Copy, Debug, PartialEq, Eq)]
+#[derive(Clone, Copy, Debug)]
 pub enum Refusal {
     // A packed file.
     TooFewBytes,
@@ -56,5 +57,14 @@ impl Refusal {
             Refusal::FormWithoutQuestion => 18,
             Refusal::NoSuchWay => 19,
         }
+    }
+}
+
+// Causes are the same where their numbers are.
+pub impl PartialEq<Refusal> for Refusal as RefusalPartialEq {
+    ghost equals = { λ a b r. r ≡ eqb (numberOf a) (numberOf b) };
+
+    fn eq(&self, other: &Refusal) -> bool {
+        self.number() == other.number()
     }
 }

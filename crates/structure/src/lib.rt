@@ -8,9 +8,11 @@ pub const MOST_STATES: u16 = 256;
 // The most propositions that a model may have.
 pub const MOST_PROPOSITIONS: u8 = 31;
 
-// The two limits, which are those of the definitions.
+// The two limits: the constants are those of the definitions.
 pub fn limits() -> (u16, u8)
-    ensures { λ r. ⌜ r ≡ (mostStates, mostPropositions) ⌝ }
+    ensures value { λ r. ⌜ r ≡ (256, 31) ⌝ }
+    ensures defined { λ r. ⌜ r ≡ (mostStates, mostPropositions) ⌝ }
+    ensures constants { λ _. do ⌜ ((← ⟦MOST_STATES⟧ .exit) ≡ mostStates) × ((← ⟦MOST_PROPOSITIONS⟧ .exit) ≡ mostPropositions) ⌝ }
 {
     (MOST_STATES, MOST_PROPOSITIONS)
 }

@@ -1,3 +1,4 @@
+-- A shift and a mask give the bit.
 use mathlib.Core.Path.{ap, _∙_}
 use lib.Dec.{eqb}
 use Prim.Native.Nat.{_%_, _/_, _^_, _-_}

@@ -1,3 +1,4 @@
+-- Past the end every byte is 0.
 use mathlib.Core.Path.{sym}
 use Rattle.std.proofs.shelf.Lists.{getD-past}
 use Rattle.packed.proofs.byte_at.Needs as need

@@ -1,3 +1,4 @@
+-- The first byte goes without the bits before `from`; every later byte is whole.
 use Prim.Native.Nat.{_/_, _%_, _^_}
 use native.Mathlib.Omega.{arith}
 use lib.Bits.{bitAnd}

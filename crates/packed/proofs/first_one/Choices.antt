@@ -1,3 +1,4 @@
+-- What the loop over bytes keeps.
 use Prim.Native.Nat.{_*_}
 use Rattle.packed.proofs.FirstOne.{Zeros}
 use Rattle.packed.proofs.first_one.Given as given

@@ -1,3 +1,4 @@
+-- The pieces are the line, and the line fits.
 use native.Mathlib.Omega.{arith}
 use Rattle.report.specs.Headline.{countsLine}
 use Rattle.report.proofs.Lines.{written, length-countsLine}

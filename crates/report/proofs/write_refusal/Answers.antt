@@ -1,3 +1,4 @@
+-- The pieces are the line, and the line fits.
 use mathlib.Core.Path.{ap}
 use native.Mathlib.Omega.{arith}
 use Rattle.report.specs.Headline.{refusalLine}

@@ -1,3 +1,4 @@
+-- The three fields lie in the first three bytes.
 use mathlib.Core.Path.{sym, _∙_, ap}
 use Prim.Native.Nat.{_/_}
 use native.Mathlib.Omega.{arith}

@@ -1,3 +1,4 @@
+-- The three bytes are accepted, and spell the still structure.
 use Rattle.packed.proofs.StillBytes.{still-accepted, still-spelled}
 use Rattle.packed.proofs.file.still_file.Needs as need
 

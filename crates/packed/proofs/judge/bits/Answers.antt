@@ -1,3 +1,4 @@
+-- The row after the last state is the end of the layout.
 use Prim.Native.Nat.{_+_}
 use mathlib.Core.Path.{ap, _∙_}
 use native.Mathlib.Omega.{arith}

@@ -1,3 +1,4 @@
+-- A state is left at its first step bit that is 1, and the loop at the first state without one.
 use Prim.Native.Nat.{_+_}
 use mathlib.Core.Path.{_≡_, sym, ap, _∙_}
 use mathlib.Core.Bool.{true}

@@ -1,3 +1,4 @@
+-- What the loop over states and the loop over step bits keep.
 use Prim.Native.Nat.{ℕ, _+_, _<_}
 use mathlib.Core.Path.{_≡_}
 use mathlib.Core.Bool.{false}

@@ -1,3 +1,4 @@
+-- A filling bit is 1 exactly where a first one is found.
 use mathlib.Core.Path.{_∙_, refl}
 use Rattle.packed.proofs.Judged.{filled-from}
 use Rattle.packed.proofs.judge.has_filling_bit.Needs as need

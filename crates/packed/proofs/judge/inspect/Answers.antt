@@ -1,3 +1,4 @@
+-- The verdict is the first cause, and the laws of verdicts say what that tells.
 use mathlib.Core.Path.{sym, subst}
 use Rattle.packed.specs.Layout.{narrow}
 use Rattle.packed.specs.Verdict.{Judged}

@@ -1,3 +1,4 @@
+-- The bytes are the bits, filled up.
 use Prim.Native.Nat.{_+_, _/_}
 use mathlib.Core.Path.{ap}
 use native.Mathlib.Omega.{arith}

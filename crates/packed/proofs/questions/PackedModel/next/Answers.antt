@@ -1,3 +1,4 @@
+-- The next step is the first 1 among the step bits of the state.
 use Prim.Native.Nat.{ℕ, _+_, _-_}
 use mathlib.Core.Path.{_≡_, sym, subst}
 use mathlib.Core.Bool.{_&&_}

@@ -1,3 +1,4 @@
+-- An accepted file keeps the limits.
 use Rattle.packed.proofs.Kept.{spells-keeps}
 use Rattle.packed.proofs.questions.PackedModel.states.Needs as need
 
