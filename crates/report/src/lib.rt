@@ -11,7 +11,7 @@ ghost use Rattle.refusal.specs.declared.Refusal.the-variants.{SliceTooSmall};
 ghost use Rattle.structure.specs.Paths.{visitedCount, Visits};
 ghost use Rattle.packed.specs.Layout.{narrow, spells};
 ghost use Rattle.packed.specs.Verdict.{verdict};
-ghost use Rattle.report.specs.Headline.{countsLine, refusalLine, headlineOf, suffices};
+ghost use Rattle.report.specs.Headline.{countsLine, refusalLine, headlineOf, suffices, lineRoom};
 use lent::scratch::Scratch;
 use model::Model;
 use output::Piece;
@@ -30,6 +30,7 @@ pub fn headline(bytes: &[u8], out: &mut [u8], scratch: &mut [u16]) -> Result<usi
     ensures value { λ r. ⌜ r ≡ cond (suffices (now (bytes .entry)) (length (now (out .entry))) (length (now (scratch .entry)))) (Ok (length (headlineOf (now (bytes .entry))))) (Err SliceTooSmall) ⌝ }
     ensures after { λ r. ⌜ now (out .exit) ≡ cond (isOk r) (headlineOf (now (bytes .entry)) ++ drop (length (headlineOf (now (bytes .entry)))) (now (out .entry))) (now (out .entry)) ⌝ }
     ensures within { λ r. ⌜ made r (λ n. n ≤ length (now (out .entry))) ⌝ }
+    ensures room { λ _. do ⌜ (← ⟦LINE_ROOM⟧ .exit) ≡ lineRoom ⌝ }
     ensures counts { λ r. ⌜ (isOk r ≡ true → isOk (verdict narrow (now (bytes .entry))) ≡ true → Visits (spells narrow (now (bytes .entry))) (visitedCount (spells narrow (now (bytes .entry))))) ⌝ }
     ensures zeros { λ _. ⌜ now (scratch .exit) ≡ replicate (length (now (scratch .entry))) 0 ⌝ }
 {
