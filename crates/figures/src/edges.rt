@@ -1,6 +1,6 @@
 // Tests at the edges: the largest models, files a byte off, slices a place short, states and propositions that are not there.
 use model::Model;
-use packed::{PackedModel, inspect, open};
+use packed::{inspect, open};
 use reach::reach;
 use refusal::Refusal;
 use report::headline;

@@ -4,8 +4,8 @@ ghost use Rattle.structure.specs.Next.{next_of};
 ghost use Rattle.figures.specs.PairTables.{Copies, Mixed, Loopless};
 
 use model::Model;
-use packed::{PackedModel, open};
-use pair::{Pair, PairModel};
+use packed::open;
+use pair::Pair;
 
 // The steps of state 0 in the pair of two copies of a file, one after another and then none.
 pub fn pair_figures() -> [Option<u16>; 4]
@@ -20,7 +20,7 @@ pub fn pair_figures() -> [Option<u16>; 4]
 
 // The smallest steps of state 0 that are not below 0, 1, 2 and 3.
 fn first_steps<M: Model>(model: &M) -> [Option<u16>; 4]
-    ensures { let S = meaning model.now in result ≡ next_of S 0 0 ∷ next_of S 0 1 ∷ next_of S 0 2 ∷ next_of S 0 3 ∷ [] }
+    ensures { let S = M.meaning model.now in result ≡ next_of S 0 0 ∷ next_of S 0 1 ∷ next_of S 0 2 ∷ next_of S 0 3 ∷ [] }
 {
     [
         model.next(0, 0),

@@ -4,7 +4,7 @@ ghost use Rattle.structure.specs.Structure.{still};
 ghost use Rattle.packed.specs.FileOf.{file_of};
 ghost use Rattle.packed.specs.Layout.{narrow, spells};
 ghost use Rattle.packed.specs.Verdict.{verdict, opened};
-ghost use Rattle.packed.specs.contracts.questions.PackedModel.TheImpl.{ghosts as packed};
+ghost use Rattle.packed.specs.contracts.questions.PackedFiniteModel.TheImpl.{ghosts as packed};
 
 use crate::{Header, Packed, inspect};
 

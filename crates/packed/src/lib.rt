@@ -89,10 +89,10 @@ impl Header {
 
     // The fields of a model's file.
     fn of<M: Model>(model: &M) -> Header
-        ensures states { result.states ≡ (meaning model.now).states }
-        ensures start { result.start ≡ (meaning model.now).start }
-        ensures propositions { result.propositions ≡ (meaning model.now).propositions }
-        ensures keeps { Limits (meaning model.now) }
+        ensures states { result.states ≡ (M.meaning model.now).states }
+        ensures start { result.start ≡ (M.meaning model.now).start }
+        ensures propositions { result.propositions ≡ (M.meaning model.now).propositions }
+        ensures keeps { Limits (M.meaning model.now) }
     {
         Header {
             states: model.states(),

@@ -27,12 +27,12 @@ pub fn file_room() -> usize
 // Writes the file of a model at the front of `out`, and gives its length. Where `out` is shorter, it writes nothing.
 // Opened again, the file means what the model means.
 pub fn pack<M: Model>(model: &M, out: &mut [u8]) -> Result<usize, Refusal>
-    ensures value { let file = file_of narrow (meaning model.now) in result ≡ (if nat_le (length file) (length out.old) then Ok (length file) else Err SliceTooSmall) }
-    ensures after { let file = file_of narrow (meaning model.now) in out.new ≡ (if nat_le (length file) (length out.old) then file ++ drop (length file) out.old else out.old) }
+    ensures value { let file = file_of narrow (M.meaning model.now) in result ≡ (if nat_le (length file) (length out.old) then Ok (length file) else Err SliceTooSmall) }
+    ensures after { let file = file_of narrow (M.meaning model.now) in out.new ≡ (if nat_le (length file) (length out.old) then file ++ drop (length file) out.old else out.old) }
     ensures within { IfOk result (λ n. n ≤ length out.old) }
-    ensures accepted { verdict narrow (file_of narrow (meaning model.now)) ≡ Ok tt }
-    ensures opens { let S = meaning model.now in opened narrow (file_of narrow S) ≡ S }
-    ensures most { length (file_of narrow (meaning model.now)) ≤ most_bytes }
+    ensures accepted { verdict narrow (file_of narrow (M.meaning model.now)) ≡ Ok tt }
+    ensures opens { let S = M.meaning model.now in opened narrow (file_of narrow S) ≡ S }
+    ensures most { length (file_of narrow (M.meaning model.now)) ≤ most_bytes }
 {
     let size = file_size(model);
     if out.len() < size {
@@ -44,9 +44,9 @@ pub fn pack<M: Model>(model: &M, out: &mut [u8]) -> Result<usize, Refusal>
 
 // The length of the model's file.
 fn file_size<M: Model>(model: &M) -> usize
-    ensures value { result ≡ length (file_of narrow (meaning model.now)) }
-    ensures accepted { verdict narrow (file_of narrow (meaning model.now)) ≡ Ok tt }
-    ensures opens { let S = meaning model.now in opened narrow (file_of narrow S) ≡ S }
+    ensures value { result ≡ length (file_of narrow (M.meaning model.now)) }
+    ensures accepted { verdict narrow (file_of narrow (M.meaning model.now)) ≡ Ok tt }
+    ensures opens { let S = M.meaning model.now in opened narrow (file_of narrow S) ≡ S }
     ensures most { result ≤ most_bytes }
 {
     Header::of(model).size()
@@ -54,17 +54,17 @@ fn file_size<M: Model>(model: &M) -> usize
 
 // Writes the model's file, which has `size` bytes, at the front of `out`.
 fn write_front<M: Model>(model: &M, out: &mut [u8], size: usize)
-    requires size { size ≡ length (file_of narrow (meaning model.now)) }
+    requires size { size ≡ length (file_of narrow (M.meaning model.now)) }
     requires room { size ≤ length out.old }
-    ensures { let file = file_of narrow (meaning model.now) in out.new ≡ file ++ drop (length file) out.old }
+    ensures { let file = file_of narrow (M.meaning model.now) in out.new ≡ file ++ drop (length file) out.old }
 {
     write_file(model, &mut out[0..size]);
 }
 
 // Writes the model's file, which is as long as `file`.
 fn write_file<M: Model>(model: &M, file: &mut [u8])
-    requires { length file.old ≡ length (file_of narrow (meaning model.now)) }
-    ensures { file.new ≡ file_of narrow (meaning model.now) }
+    requires { length file.old ≡ length (file_of narrow (M.meaning model.now)) }
+    ensures { file.new ≡ file_of narrow (M.meaning model.now) }
 {
     let header = Header::of(model);
     clear(file);
@@ -85,11 +85,11 @@ fn clear(file: &mut [u8])
 
 // Writes the labels of state `s`, whose bits begin at place `row`.
 fn write_labels<M: Model>(model: &M, s: u16, row: usize, file: &mut [u8])
-    requires limits { Limits (meaning model.now) }
-    requires inside { s < (meaning model.now).states }
-    requires row { row ≡ row_at narrow (meaning model.now) s }
-    requires written { Written (meaning model.now) file.old (row_at narrow (meaning model.now) s) }
-    ensures { let S = meaning model.now in Written S file.new (row_at narrow S s + S.propositions) }
+    requires limits { Limits (M.meaning model.now) }
+    requires inside { s < (M.meaning model.now).states }
+    requires row { row ≡ row_at narrow (M.meaning model.now) s }
+    requires written { Written (M.meaning model.now) file.old (row_at narrow (M.meaning model.now) s) }
+    ensures { let S = M.meaning model.now in Written S file.new (row_at narrow S s + S.propositions) }
 {
     for p in 0..model.propositions() {
         if model.holds(s, p) {
@@ -100,11 +100,11 @@ fn write_labels<M: Model>(model: &M, s: u16, row: usize, file: &mut [u8])
 
 // Writes the steps of state `s`, whose bits begin at place `steps`.
 fn write_steps<M: Model>(model: &M, s: u16, steps: usize, file: &mut [u8])
-    requires limits { Limits (meaning model.now) }
-    requires inside { s < (meaning model.now).states }
-    requires steps { steps ≡ row_at narrow (meaning model.now) s + (meaning model.now).propositions }
-    requires written { Written (meaning model.now) file.old (row_at narrow (meaning model.now) s + (meaning model.now).propositions) }
-    ensures { let S = meaning model.now in Written S file.new (row_at narrow S (s + 1)) }
+    requires limits { Limits (M.meaning model.now) }
+    requires inside { s < (M.meaning model.now).states }
+    requires steps { steps ≡ row_at narrow (M.meaning model.now) s + (M.meaning model.now).propositions }
+    requires written { Written (M.meaning model.now) file.old (row_at narrow (M.meaning model.now) s + (M.meaning model.now).propositions) }
+    ensures { let S = M.meaning model.now in Written S file.new (row_at narrow S (s + 1)) }
 {
     let mut from = 0;
     while let Some(t) = model.next(s, from) {

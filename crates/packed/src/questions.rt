@@ -2,9 +2,10 @@
 ghost use Rattle.packed.specs.Layout.{narrow, spells};
 
 use crate::{Packed, bit, first_one};
-use model::Model;
+// `Model` itself is a word of the language, so an impl names the trait otherwise.
+use model::Model as FiniteModel;
 
-pub impl<'a> Model for Packed<'a> as PackedModel {
+impl<'a> FiniteModel for Packed<'a> {
     ghost meaning = { λ p. spells narrow p.bytes.now };
 
     fn states(&self) -> u16 {

@@ -5,8 +5,8 @@ ghost use Rattle.packed.specs.FileOf.{most_bytes};
 ghost use Rattle.pair_files.specs.Outcomes.{outcome_of, pair_file, written, Within};
 
 use anyhow::anyhow;
-use packed::{FILE_ROOM, PackedModel, inspect, open, pack};
-use pair::{Pair, PairModel, fits};
+use packed::{FILE_ROOM, inspect, open, pack};
+use pair::{Pair, fits};
 use report::{LINE_ROOM, headline};
 use std::alloc::Global;
 use std::io::Write;

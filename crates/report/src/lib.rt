@@ -9,7 +9,7 @@ ghost use Rattle.report.specs.Headline.{counts_line, refusal_line, headline_of, 
 use lent::scratch::Scratch;
 use model::Model;
 use output::{Piece, write_line};
-use packed::{PackedModel, inspect, open};
+use packed::{inspect, open};
 use reach::reach;
 use refusal::Refusal;
 

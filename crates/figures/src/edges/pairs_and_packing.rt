@@ -1,8 +1,8 @@
 // Tests at the edges of pairs and of packing: sides that just fit and that just do not, a side of one state, slices a byte short.
 use super::ring;
 use model::{Model, still_model};
-use packed::{FILE_ROOM, PackedModel, inspect, open, pack};
-use pair::{Pair, PairModel, fits};
+use packed::{FILE_ROOM, inspect, open, pack};
+use pair::{Pair, fits};
 use refusal::Refusal;
 
 // State 0 has a proposition and steps to 0 and 1; state 1 has a step to itself.

@@ -6,7 +6,7 @@ use Rattle.refusal.specs.declared.Refusal.TheVariants.{SliceTooSmall}
 use Rattle.packed.specs.FileOf.{file_of, most_bytes}
 use Rattle.packed.specs.Layout.{narrow}
 use Rattle.packed.specs.Verdict.{verdict, opened}
-use Rattle.packed.specs.contracts.questions.PackedModel.TheImpl.{dict}
+use Rattle.packed.specs.contracts.questions.PackedFiniteModel.TheImpl.{dict}
 use Rattle.pair.specs.Sides.{fit, paired}
 use Rattle.pair_files.specs.Outcomes.{pair_file, outcome_of, written}
 use Rattle.pair_files.specs.declared.Outcome.TheVariants.{Misfit, Packed}

@@ -1,7 +1,7 @@
 -- What the code answers is what the definitions say.
 use Rattle.std.proofs.Common.{[], ◌∷◌, ap, ◌∙◌}
 use Rattle.structure.specs.Next.{next_of}
-use Rattle.packed.specs.contracts.questions.PackedModel.TheImpl.{dict}
+use Rattle.packed.specs.contracts.questions.PackedFiniteModel.TheImpl.{dict}
 use Rattle.pair.specs.Sides.{paired}
 use Rattle.figures.proofs.Pairs.{copies_drawn, mixed_drawn, loopless_drawn, nexts}
 use Rattle.figures.proofs.paired_files.pair_figures.Goals as goal

@@ -5,7 +5,7 @@ use Rattle.structure.proofs.Conjunctions.{both_passed}
 use Rattle.packed.specs.Bits.{bit_at}
 use Rattle.packed.specs.Layout.{narrow, states_of, propositions_of}
 use Rattle.packed.proofs.FieldLaws.{row_from}
-use Rattle.packed.proofs.questions.PackedModel.holds.Goals as goal
+use Rattle.packed.proofs.questions.PackedFiniteModel.holds.Goals as goal
 
 pub returns : goal.returns
 returns c =

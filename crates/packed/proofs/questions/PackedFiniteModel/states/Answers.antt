@@ -1,6 +1,6 @@
 -- An accepted file keeps the limits.
 use Rattle.packed.proofs.Kept.{spells_keeps}
-use Rattle.packed.proofs.questions.PackedModel.states.Goals as goal
+use Rattle.packed.proofs.questions.PackedFiniteModel.states.Goals as goal
 
 pub returns : goal.returns
 returns c =

@@ -9,8 +9,8 @@ use Rattle.packed.specs.Layout.{narrow, propositions_of, row_of, spells}
 use Rattle.packed.proofs.FieldLaws.{steps_from}
 use Rattle.packed.proofs.Kept.{spells_keeps, states_of_small, propositions_of_small}
 use Rattle.packed.proofs.Stepped.{no_state, next_step}
-use Rattle.packed.proofs.questions.PackedModel.next.Goals as goal
-use Rattle.packed.proofs.questions.PackedModel.next.Goals.{After-from-3}
+use Rattle.packed.proofs.questions.PackedFiniteModel.next.Goals as goal
+use Rattle.packed.proofs.questions.PackedFiniteModel.next.Goals.{After-from-3}
 
 pub returns-then-s-self : goal.returns-then-s-self
 returns-then-s-self c =
@@ -48,5 +48,5 @@ returns c =
 pub returns-in_err-place : goal.returns-in_err-place
 returns-in_err-place c =
     let file = c.args.self.now in
-    let none = subst (Smallest ((spells narrow file.bytes.now).step c.args.s) c.args.t) (sym c.from-residual.ensures) (found (goal.at.returns-in_err-place c).After-from-3 None c.in_err-place.ensures) in
-    record { value = next_of_from_smallest (spells narrow file.bytes.now) (spells_keeps file.bytes.now file.accepted) c.args.s c.args.t c.from-residual.result none; smallest = none }
+    let none = subst (Smallest ((spells narrow file.bytes.now).step c.args.s) c.args.t) (sym c.from_residual.ensures) (found (goal.at.returns-in_err-place c).After-from-3 None c.in_err-place.ensures) in
+    record { value = next_of_from_smallest (spells narrow file.bytes.now) (spells_keeps file.bytes.now file.accepted) c.args.s c.args.t c.from_residual.result none; smallest = none }
