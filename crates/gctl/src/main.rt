@@ -1,4 +1,6 @@
 // Prints the first line of the report on the model in `model.bin`.
+#![tactic(auto)]
+
 use anyhow::anyhow;
 use report::{LINE_ROOM, headline};
 use std::fs;

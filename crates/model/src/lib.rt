@@ -1,4 +1,6 @@
 // A model by its five questions. Whatever counts, packs or pairs models sees them only through this trait.
+#![tactic(auto)]
+
 ghost use Rattle.std.specs.Prelude.{◌≡◌};
 ghost use Rattle.structure.specs.Structure.{Structure, Limits, still};
 ghost use Rattle.structure.specs.Next.{next_of, Smallest};

@@ -1,4 +1,6 @@
 // A line of output as a list of pieces, written into a lent slice of bytes.
+#![tactic(auto)]
+
 ghost use Rattle.std.specs.Prelude.{◌≡◌, ◌+◌, ◌≤◌, ◌++◌, length, drop, if◌then◌else◌, Some, None, Ok, Err, decimal, nat_le};
 ghost use Rattle.std.proofs.Math.Seq.{paste};
 ghost use Rattle.refusal.specs.declared.Refusal.TheVariants.{SliceTooSmall};

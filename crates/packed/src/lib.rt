@@ -1,5 +1,7 @@
 // Packed models: the file layout, its judge, the model of an accepted file and the file of a model. No other library crate knows the layout.
 // This module has the bits of a file, its fixed fields and the type of an accepted file.
+#![tactic(auto)]
+
 ghost use Rattle.std.specs.Prelude.{◌≡◌, ◌+◌, ◌-◌, ◌*◌, ◌/◌, ◌^◌, ◌<◌, ◌≤◌, true, ◌&&◌, ltb, length, is_ok, if◌then◌else◌, Some, None, nat_lt, slice_index, slice_set};
 ghost use Rattle.std.specs.Int.Count.{count_leading_zeros};
 ghost use Rattle.structure.specs.Next.{Smallest};

@@ -1,5 +1,7 @@
 // Pairs the models of two files, packs the pair and prints what it did: pair_files FIRST SECOND [OUT]
 // With OUT the packed pair is written there as well.
+#![tactic(auto)]
+
 ghost use Rattle.std.specs.Prelude.{◌≡◌, length};
 ghost use Rattle.packed.specs.FileOf.{most_bytes};
 ghost use Rattle.pair_files.specs.Outcomes.{outcome_of, pair_file, written, Within};

@@ -1,4 +1,6 @@
 // Every cause for which a call of the checker says no, and the number that reports it.
+#![tactic(auto)]
+
 ghost use Rattle.std.specs.Prelude.{◌≡◌, ◌==◌};
 ghost use Rattle.refusal.specs.Numbers.{number_of};
 ghost use Rattle.std.specs.Cmp.Rules.{comparing};

@@ -1,4 +1,6 @@
 // The lines of a report.
+#![tactic(auto)]
+
 ghost use Rattle.std.specs.Prelude.{◌≡◌, ◌<◌, ◌≤◌, true, ◌++◌, length, drop, replicate, is_ok, IfOk, if◌then◌else◌, Ok, Err};
 ghost use Rattle.refusal.specs.declared.Refusal.TheVariants.{SliceTooSmall};
 ghost use Rattle.structure.specs.Paths.{visited_count, Visits};

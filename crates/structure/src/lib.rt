@@ -1,4 +1,6 @@
 // The meaning of models: structures, their limits, their paths. The definitions stand in specs/, the laws in proofs/.
+#![tactic(auto)]
+
 ghost use Rattle.std.specs.Prelude.{◌≡◌};
 ghost use Rattle.structure.specs.Structure.{most_states, most_propositions};
 
