@@ -1,5 +1,5 @@
 -- Laws of bits: a bit by division, a field of one byte, the leading bit of a byte, and the bits that a mask leaves. Assumes nothing.
-use Rattle.std.proofs.Common.{◌≡◌, ℕ, zero, suc, ◌+◌, ◌-◌, ◌*◌, ◌/◌, ◌%◌, ◌^◌, ◌<◌, ◌≤◌, Bool, true, false, cond, eqb, ◌⊎◌, List, get_or, sym, refl, ap, ◌∙◌, ⊎_elim, add-one, arith, pow_mono}
+use Rattle.std.proofs.Common.{◌≡◌, ℕ, zero, suc, ◌+◌, ◌-◌, ◌*◌, ◌/◌, ◌%◌, ◌^◌, ◌<◌, ◌≤◌, Bool, true, false, cond, eqb, List, get_or, sym, refl, ap, ◌∙◌, ⊎_elim, add-one, arith, pow_mono}
 use native.Mathlib.Nat.{zero-div}
 use lib.Bits.{bit_and}
 use lib.Count.{count_leading_zeros}
