@@ -35,11 +35,11 @@ model() {
     }'
 }
 
-# compare PROGRAM SOURCE N FILE ARGS..: times target/bin/PROGRAM with ARGS beside the C program SOURCE, on a ring and a dense model of N states in FILE.
+# compare PROGRAM SOURCE N FILE ARGS..: times crates/PROGRAM/out/PROGRAM with ARGS beside the C program SOURCE, on a ring and a dense model of N states in FILE.
 # A line of the table has our time, the plain program's, the one's that does nothing, the ratio, and the ratio less what doing nothing takes.
 compare() {
-    ours=$root/target/bin/$1
-    [ -x "$ours" ] || { echo "build it first: rt check $1" >&2; exit 2; }
+    ours=$root/crates/$1/out/$1
+    [ -x "$ours" ] || { echo "build it first: in crates/$1, rt run" >&2; exit 2; }
     cc -O3 -o "$work/plain" "$root/bench/$2"
     states=$3
     file=$4

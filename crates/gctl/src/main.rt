@@ -5,6 +5,7 @@ use anyhow::anyhow;
 use report::{LINE_ROOM, headline};
 use std::fs;
 use std::io::{ErrorKind, Write};
+use std::process::ExitCode;
 use structure::MOST_STATES;
 
 // The bytes of the file, none where it is missing.
@@ -34,12 +35,13 @@ fn run(rt: &HostRuntime) -> anyhow::Result<()> {
     }
 }
 
-fn main(rt: HostRuntime) -> anyhow::Result<()> {
+fn main(rt: HostRuntime) -> ExitCode {
     match run(&rt) {
-        Ok(()) => Ok(()),
+        Ok(()) => ExitCode::SUCCESS,
         Err(error) => {
-            eprintln!(rt; "gctl: {error}")?;
-            Err(error)
+            // Where the error stream takes nothing either, the status alone tells.
+            let _ = eprintln!(rt; "gctl: {error}");
+            ExitCode::FAILURE
         }
     }
 }

@@ -12,6 +12,7 @@ use pair::{Pair, fits};
 use report::{LINE_ROOM, headline};
 use std::alloc::Global;
 use std::io::Write;
+use std::process::ExitCode;
 use std::{env, fs};
 use structure::MOST_STATES;
 
@@ -132,12 +133,13 @@ fn run(rt: &HostRuntime) -> anyhow::Result<()> {
     }
 }
 
-fn main(rt: HostRuntime) -> anyhow::Result<()> {
+fn main(rt: HostRuntime) -> ExitCode {
     match run(&rt) {
-        Ok(()) => Ok(()),
+        Ok(()) => ExitCode::SUCCESS,
         Err(error) => {
-            eprintln!(rt; "pair_files: {error}")?;
-            Err(error)
+            // Where the error stream takes nothing either, the status alone tells.
+            let _ = eprintln!(rt; "pair_files: {error}");
+            ExitCode::FAILURE
         }
     }
 }
