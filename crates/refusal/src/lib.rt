@@ -3,8 +3,7 @@
 
 ghost use Rattle.std.specs.Prelude.{◌≡◌, ◌==◌};
 ghost use Rattle.refusal.specs.Numbers.{number_of};
-ghost use Rattle.std.specs.Cmp.Rules.{comparing};
-ghost use Rattle.std.proofs.Common.{rules};
+ghost use Rattle.std.specs.Cmp.{on_per, partial_equiv_from_equiv, nat_eq_equiv};
 
 #[derive(Clone, Copy, Debug)]
 pub enum Refusal {
@@ -67,7 +66,7 @@ impl Refusal {
 impl PartialEq for Refusal {
     ghost eq = { λ a b. (number_of a == number_of b) };
 
-    ghost laws = { Prim.search (comparing, rules) };
+    ghost laws = { on_per number_of (partial_equiv_from_equiv nat_eq_equiv) };
 
     fn eq(&self, other: &Refusal) -> bool {
         self.number() == other.number()

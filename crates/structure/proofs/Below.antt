@@ -1,4 +1,4 @@
--- What `anyBelow` and `countBelow` tell of the numbers below n. Assumes nothing.
+-- What `any_below` and `count_below` tell of the numbers below n. Assumes nothing.
 use Rattle.std.proofs.Common.{◌≡◌, ℕ, zero, suc, ◌<◌, ◌≤◌, Bool, true, false, cond, sym, refl, ap, subst, ⊎_elim, arith}
 use Rattle.std.proofs.lemmas.Bool.{cases_eq, or_left, or_right, or_from, or_cases, or_parts, true≢false}
 use Rattle.structure.specs.Paths.{any_below, count_below}
