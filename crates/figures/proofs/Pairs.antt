@@ -7,8 +7,8 @@ use Rattle.packed.specs.Bits.{bit_of, bit_in, bit_at, number_at, spelled_by, byt
 use Rattle.packed.specs.FileOf.{file_bit, file_size, file_of}
 use Rattle.packed.specs.Layout.{narrow, states_of, start_of, propositions_of, row_of, bits_of, size_of}
 use Rattle.packed.specs.Verdict.{filled, stuck, opened}
-use Rattle.packed.proofs.Kept.{spells_keeps}
-use Rattle.pair.proofs.Kept.{paired_keeps}
+use Rattle.packed.specs.Kept.{spells_keeps}
+use Rattle.pair.specs.Kept.{paired_keeps}
 use Rattle.figures.specs.Files.{two_states_file}
 use Rattle.figures.specs.PairTables.{copies, Copies, Mixed, Loopless}
 

@@ -7,26 +7,39 @@ use report::headline;
 
 mod pairs_and_packing;
 
-// The bytes of a file of 256 states with 31 propositions, and with none.
+// The bytes of a file of 256 states with 31 propositions.
 const LARGEST: usize = 9187;
 
+// The bytes of one without propositions, and the numbers of bytes around it.
 const UNLABELLED: usize = 8195;
 
-// Sets a bit of a file, counted from the most significant of its first byte.
+const A_BYTE_LESS: usize = UNLABELLED - 1;
+
+const A_BYTE_MORE: usize = UNLABELLED + 1;
+
+// Sets a bit of a file, counted from the most significant of its first byte. The tests have this of their own, and not from the code that
+// they test.
 fn set_bit(bytes: &mut [u8], i: usize) {
     if let Some(byte) = bytes.get_mut(i / 8) {
         *byte |= 128 >> (i % 8);
     }
 }
 
-// A ring of states, each with a step to the next. The last proposition is true at the last state.
-fn ring(bytes: &mut [u8], states: u16, propositions: u8) {
+// The first `N` bytes of the file of a ring of states: each state has a step to the next, and the last proposition is true at the last state.
+fn ring<const N: usize>(states: u16, propositions: u8) -> [u8; N] {
+    let mut bytes = [0; N];
+    if let Some(count) = bytes.get_mut(0) {
+        *count = (states.saturating_sub(1) & 0xff) as u8;
+    }
+    if let Some(described) = bytes.get_mut(2) {
+        *described = propositions << 3;
+    }
     let width = usize::from(propositions) + usize::from(states);
     for s in 0..states {
         let steps = 21 + usize::from(s) * width + usize::from(propositions);
         let last = s + 1 == states;
         set_bit(
-            bytes,
+            &mut bytes,
             if last {
                 steps
             } else {
@@ -34,22 +47,15 @@ fn ring(bytes: &mut [u8], states: u16, propositions: u8) {
             },
         );
         if last && propositions > 0 {
-            set_bit(bytes, steps - 1);
+            set_bit(&mut bytes, steps - 1);
         }
     }
-}
-
-// The first `n` bytes.
-fn front(bytes: &[u8], n: usize) -> &[u8] {
-    bytes.get(0..n).unwrap_or(&[])
+    bytes
 }
 
 #[test]
 fn largest_model(rt: HostRuntime) {
-    let mut bytes = [0u8; LARGEST];
-    bytes[0] = 255;
-    bytes[2] = 31 << 3;
-    ring(&mut bytes, 256, 31);
+    let bytes: [u8; LARGEST] = ring(256, 31);
     assert_eq!(rt; inspect(&bytes), Ok(()));
     let model = open(&bytes);
     assert_eq!(rt;
@@ -75,10 +81,7 @@ fn largest_model(rt: HostRuntime) {
 
 #[test]
 fn largest_headline(rt: HostRuntime) {
-    let mut bytes = [0u8; LARGEST];
-    bytes[0] = 255;
-    bytes[2] = 31 << 3;
-    ring(&mut bytes, 256, 31);
+    let bytes: [u8; LARGEST] = ring(256, 31);
     let mut line = [b'.'; 1024];
     let mut scratch = [7u16; 1024];
     assert_eq!(rt; headline(&bytes, &mut line, &mut scratch), Ok(41));
@@ -88,19 +91,17 @@ fn largest_headline(rt: HostRuntime) {
 
 #[test]
 fn lengths_of_a_file(rt: HostRuntime) {
-    let mut bytes = [0u8; UNLABELLED + 1];
-    bytes[0] = 255;
-    ring(&mut bytes, 256, 0);
-    assert_eq!(rt; inspect(&bytes), Err(Refusal::TooManyBytes));
-    assert_eq!(rt; inspect(front(&bytes, UNLABELLED)), Ok(()));
-    assert_eq!(rt;
-        inspect(front(&bytes, UNLABELLED - 1)),
-        Err(Refusal::TooFewBytes)
-    );
-    assert_eq!(rt; inspect(front(&bytes, 2)), Err(Refusal::TooFewBytes));
+    let more: [u8; A_BYTE_MORE] = ring(256, 0);
+    let exact: [u8; UNLABELLED] = ring(256, 0);
+    let less: [u8; A_BYTE_LESS] = ring(256, 0);
+    let short: [u8; 2] = ring(256, 0);
+    assert_eq!(rt; inspect(&more), Err(Refusal::TooManyBytes));
+    assert_eq!(rt; inspect(&exact), Ok(()));
+    assert_eq!(rt; inspect(&less), Err(Refusal::TooFewBytes));
+    assert_eq!(rt; inspect(&short), Err(Refusal::TooFewBytes));
     assert_eq!(rt; inspect(&[]), Err(Refusal::TooFewBytes));
-    assert_eq!(rt; open(front(&bytes, UNLABELLED)).propositions(), 0);
-    assert_eq!(rt; open(&bytes).states(), 1);
+    assert_eq!(rt; open(&exact).propositions(), 0);
+    assert_eq!(rt; open(&more).states(), 1);
 }
 
 // Of several causes the first in the order of the numbers is told.

@@ -1,2 +1,1 @@
 mod Ring
-mod Standing

@@ -4,19 +4,15 @@
 ghost use Rattle.std.specs.Prelude.{◌≡◌};
 ghost use Rattle.structure.specs.Structure.{Structure, Limits, still};
 ghost use Rattle.structure.specs.Next.{next_of, Smallest};
-
-mod made;
-
-pub use made::still_model;
+ghost use Rattle.structure.proofs.StillKeeps.{still_keeps};
 
 pub trait Model {
     // The structure that the model stands for.
     ghost meaning: { Self → Structure };
 
-    // The number of states. Every implementation owes here that its meaning keeps the limits.
+    // The number of states.
     fn states(&self) -> u16
-        ensures value { result ≡ (meaning self.now).states }
-        ensures keeps { Limits (meaning self.now) };
+        ensures { result ≡ (meaning self.now).states };
 
     // The starting state.
     fn start(&self) -> u16
@@ -34,6 +30,9 @@ pub trait Model {
     fn next(&self, s: u16, t: u16) -> Option<u16>
         ensures value { result ≡ next_of (meaning self.now) s t }
         ensures smallest { Smallest ((meaning self.now).step s) t result };
+
+    // Whatever a model of this kind means keeps the limits: each implementation has to prove it.
+    ghost keeps: { (model : Self) → Limits (meaning model) };
 }
 
 // The model with one state, no propositions, and a step to itself.
@@ -42,6 +41,8 @@ pub struct Still;
 
 impl Model for Still {
     ghost meaning = { λ _. still };
+
+    ghost keeps = { λ _. still_keeps };
 
     fn states(&self) -> u16 {
         1
@@ -62,4 +63,11 @@ impl Model for Still {
     fn next(&self, s: u16, t: u16) -> Option<u16> {
         if s == 0 && t == 0 { Some(0) } else { None }
     }
+}
+
+// The still model.
+pub fn still_model() -> Still
+    ensures { ⟦<Still as Model>⟧.meaning result ≡ still }
+{
+    Still
 }

@@ -109,16 +109,6 @@ masked_clears b k j lt before =
     let none : b % 2 ^ (8 - k) / 2 ^ (7 - j) ≡ 0 = omega arith in
     rw (masked b k lt, none)
 
--- w bits spell a number below 2 ^ w
-pub number_at_below : (bytes : List ℕ) (i w : ℕ) → number_at bytes i w < 2 ^ w
-unfolding number_at
-number_at_below bytes i zero = omega arith
-number_at_below bytes i (suc w) =
-    let before = number_at_below bytes i w in
-    let bit = at_most_one (bit_at bytes (i + w)) in
-    let double : 2 ^ suc w ≡ 2 ^ w * 2 = ap (λ k. 2 ^ k) (sym (add-one w)) ∙ pow-add 2 w 1 in
-    omega arith
-
 -- a bit of a byte is a bit of a number written with 8 bits
 pub bit_of_byte : (byte i : ℕ) → bit_of byte i ≡ bit_in 8 byte i
 unfolding bit_of bit_in

@@ -1,6 +1,6 @@
 -- The three fixed fields of the narrow layout, by the bytes that hold them. Assumes nothing.
-use Rattle.std.proofs.Common.{◌≡◌, ℕ, suc, ◌+◌, ◌*◌, ◌/◌, ◌<◌, List, get_or, sym, refl, ap, ◌∙◌, div-one, add-one, arith}
-use Rattle.packed.specs.Layout.{narrow, states_of, start_of, propositions_of, row_of}
+use Rattle.std.proofs.Common.{◌≡◌, ℕ, suc, ◌+◌, ◌/◌, ◌<◌, List, get_or, sym, ap, ◌∙◌, div-one, add-one, arith}
+use Rattle.packed.specs.Layout.{narrow, states_of, start_of, propositions_of}
 use Rattle.packed.proofs.BitLaws.{number_at_byte}
 
 module _ (bytes : List ℕ) where
@@ -16,15 +16,3 @@ module _ (bytes : List ℕ) where
   pub propositions_of_byte : get_or bytes 2 0 < 256 → propositions_of narrow bytes ≡ get_or bytes 2 0 / 8
   unfolding propositions_of
   propositions_of_byte small = number_at_byte bytes 2 5 small (omega arith)
-
-  pub row_of_is : (s : ℕ) → row_of narrow bytes s ≡ 21 + s * (propositions_of narrow bytes + states_of narrow bytes)
-  unfolding row_of
-  row_of_is s = refl
-
-  -- where the row and the step bits of state s begin, from the fields as numbers
-  module _ (s states propositions : ℕ) (n : states ≡ states_of narrow bytes) (p : propositions ≡ propositions_of narrow bytes) where
-    pub row_from : (row : ℕ) → row ≡ 21 + s * (propositions + states) → row ≡ row_of narrow bytes s
-    row_from row is = is ∙ (λ i. 21 + s * (p i + n i)) ∙ sym (row_of_is s)
-
-    pub steps_from : (row width : ℕ) → row ≡ 21 + s * (propositions + states) → width ≡ propositions → row + width ≡ row_of narrow bytes s + propositions_of narrow bytes
-    steps_from row width is same = λ i. row_from row is i + (same ∙ p) i

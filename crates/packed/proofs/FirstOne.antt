@@ -31,6 +31,17 @@ module _ (bytes : List ℕ) (from to : ℕ) where
       (λ ge. and_left (ltb u to) (bit_at bytes u) (le-ltb u to ge))
       (cases_lt u to)
 
+  -- bytes that are 0 hold no 1
+  pub zeros_on : (k n : ℕ) → Zeros bytes from (k * 8) → ((j : ℕ) → k ≤ j → j < n → get_or bytes j 0 ≡ 0) → Zeros bytes from (n * 8)
+  zeros_on k n zeros none i le lt =
+      ⊎_elim (zeros i le)
+      (λ late.
+      let whole = div-add-mod' i 8 in
+      let rest = mod_below i 8 (omega arith) in
+      subst (λ x. bit_at bytes x ≡ false) whole
+      (bit_at_byte bytes (i / 8) (i % 8) rest ∙ ap (λ b. bit_of b (i % 8)) (none (i / 8) (omega arith) (omega arith)) ∙ no_ones (i % 8)))
+      (cases_lt i (k * 8))
+
   module _ (k b : ℕ) (part : Part k b) where
     -- what is left of the byte has no 1
     pub zeros_after : b ≡ 0 → Zeros bytes from ((k + 1) * 8)

@@ -7,7 +7,7 @@ pub mod FileBits
 pub mod FileLaws
 pub mod FirstOne
 pub mod Judged
-pub mod Kept
+pub mod Nonzero
 pub mod SetBit
 pub mod Stepped
 pub mod StillBytes

@@ -2,23 +2,24 @@
 // This module has the bits of a file, its fixed fields and the type of an accepted file.
 #![tactic(auto)]
 
-ghost use Rattle.std.specs.Prelude.{◌≡◌, ◌+◌, ◌-◌, ◌*◌, ◌/◌, ◌^◌, ◌<◌, ◌≤◌, true, ◌&&◌, ltb, length, is_ok, if◌then◌else◌, Some, None, nat_lt, slice_index, slice_set};
+ghost use Rattle.std.specs.Prelude.{◌≡◌, ◌+◌, ◌-◌, ◌*◌, ◌/◌, ◌^◌, ◌<◌, ◌≤◌, true, ◌&&◌, not, ltb, length, is_ok, if◌then◌else◌, Some, None, nat_lt, ◌==◌, position, slice_index, slice_set};
 ghost use Rattle.std.specs.Int.Count.{count_leading_zeros};
 ghost use Rattle.structure.specs.Next.{Smallest};
 ghost use Rattle.structure.specs.Structure.{Limits};
 ghost use Rattle.packed.specs.Bits.{bit_at};
-ghost use Rattle.packed.specs.Layout.{narrow, states_of, start_of, propositions_of};
+ghost use Rattle.packed.specs.FileOf.{most_bytes};
+ghost use Rattle.packed.specs.Layout.{narrow, states_of, start_of, propositions_of, row_of};
 ghost use Rattle.packed.specs.Verdict.{verdict};
 
 use model::Model;
 
-mod file;
 mod judge;
+mod opening;
 mod packing;
 mod questions;
 
-pub use file::open;
 pub use judge::inspect;
+pub use opening::open;
 pub use packing::{FILE_ROOM, file_room, pack};
 
 // The bits of the three fixed fields.
@@ -28,7 +29,7 @@ const HEADER_BITS: usize = 21;
 fn byte_at(bytes: &[u8], i: usize) -> u8
     ensures { result ≡ slice_index bytes.now i }
 {
-    if i < bytes.len() { bytes[i] } else { 0 }
+    bytes.get(i).copied().unwrap_or(0)
 }
 
 // The bit at place `i`, most significant first.
@@ -57,13 +58,16 @@ fn first_one(bytes: &[u8], from: usize, to: usize) -> Option<usize>
     if rest != 0 {
         return leading_one(rest, first, to);
     }
-    for at in first + 1..to / 8 + 1 {
-        let byte = byte_at(bytes, at);
-        if byte != 0 {
-            return leading_one(byte, at, to);
-        }
-    }
-    None
+    let later = bytes.get(first + 1..bytes.len().min(to / 8 + 1))?;
+    let zeros = first_nonzero(later)?;
+    leading_one(later[zeros], first + 1 + zeros, to)
+}
+
+// The place of the first byte that is not 0.
+fn first_nonzero(bytes: &[u8]) -> Option<usize>
+    ensures { result ≡ position (λ byte. not (byte == 0)) bytes.now }
+{
+    bytes.iter().position(|byte| *byte != 0)
 }
 
 // The three fixed fields of a file.
@@ -72,6 +76,9 @@ struct Header {
     states: u16,
     start: u16,
     propositions: u8,
+    ghost states_fit: { (1 ≤ states) × (states ≤ 256) },
+    ghost start_fits: { start < 256 },
+    ghost propositions_fit: { propositions < 32 },
 }
 
 impl Header {
@@ -80,7 +87,6 @@ impl Header {
         ensures states { result.states ≡ states_of narrow bytes.now }
         ensures start { result.start ≡ start_of narrow bytes.now }
         ensures propositions { result.propositions ≡ propositions_of narrow bytes.now }
-        ensures small { (result.states ≤ 256) × (result.propositions < 32) }
     {
         Header {
             states: u16::from(byte_at(bytes, 0)) + 1,
@@ -94,7 +100,6 @@ impl Header {
         ensures states { result.states ≡ (M.meaning model.now).states }
         ensures start { result.start ≡ (M.meaning model.now).start }
         ensures propositions { result.propositions ≡ (M.meaning model.now).propositions }
-        ensures keeps { Limits (M.meaning model.now) }
     {
         Header {
             states: model.states(),
@@ -105,10 +110,7 @@ impl Header {
 
     // Writes the fields into the first bytes of a file.
     fn write(self, file: &mut [u8])
-        requires states { (1 ≤ self.states) × (self.states ≤ 256) }
-        requires start { self.start < 256 }
-        requires propositions { self.propositions < 32 }
-        requires room { 3 ≤ length file.old }
+        requires { 3 ≤ length file.old }
         ensures { file.new ≡ slice_set (slice_set (slice_set file.old 0 (self.states - 1)) 1 self.start) 2 (self.propositions * 8) }
     {
         file[0] = (self.states - 1) as u8;
@@ -118,26 +120,61 @@ impl Header {
 
     // The place of the first bit of state `s`.
     fn row(self, s: u16) -> usize
-        ensures { result ≡ 21 + s * (self.propositions + self.states) }
+        ensures place { result ≡ 21 + s * (self.propositions + self.states) }
+        ensures bound { result < 2 ^ 25 }
     {
         HEADER_BITS + usize::from(s) * (usize::from(self.propositions) + usize::from(self.states))
     }
 
     // The bytes that the fields take: they end where a state after the last would begin.
     fn size(self) -> usize
-        ensures { result ≡ (21 + self.states * (self.propositions + self.states) + 7) / 8 }
+        ensures bytes { result ≡ (21 + self.states * (self.propositions + self.states) + 7) / 8 }
+        ensures most { result ≤ most_bytes }
     {
         (self.row(self.states) + 7) / 8
     }
 }
 
-// An accepted file, and its fixed fields.
+// The bytes of a file, accepted or not, and the fixed fields that they begin with.
 #[derive(Clone, Copy)]
-pub struct Packed<'a> {
+struct File<'a> {
     bytes: &'a [u8],
     header: Header,
-    ghost accepted: { is_ok (verdict narrow bytes.now) ≡ true },
     ghost states: { header.states ≡ states_of narrow bytes.now },
     ghost start: { header.start ≡ start_of narrow bytes.now },
     ghost propositions: { header.propositions ≡ propositions_of narrow bytes.now },
+}
+
+impl<'a> File<'a> {
+    fn read(bytes: &'a [u8]) -> File<'a>
+        ensures { result.bytes.now ≡ bytes.now }
+    {
+        File {
+            bytes,
+            header: Header::read(bytes),
+        }
+    }
+
+    // The place of the first bit of state `s`.
+    fn row(&self, s: u16) -> usize
+        ensures place { result ≡ row_of narrow self.now.bytes.now s }
+        ensures bound { result < 2 ^ 25 }
+    {
+        self.header.row(s)
+    }
+
+    // The place of the first step bit of state `s`.
+    fn steps(&self, s: u16) -> usize
+        ensures place { result ≡ row_of narrow self.now.bytes.now s + propositions_of narrow self.now.bytes.now }
+        ensures bound { result < 2 ^ 26 }
+    {
+        self.row(s) + usize::from(self.header.propositions)
+    }
+}
+
+// An accepted file.
+#[derive(Clone, Copy)]
+pub struct Packed<'a> {
+    file: File<'a>,
+    ghost accepted: { is_ok (verdict narrow file.bytes.now) ≡ true },
 }

@@ -25,7 +25,7 @@ pub fn file_room() -> usize
 }
 
 // Writes the file of a model at the front of `out`, and gives its length. Where `out` is shorter, it writes nothing.
-// Opened again, the file means what the model means.
+// Opened again, the file means what the model means. The slice is lent and a length is given: a rule of the project, which has no heap.
 pub fn pack<M: Model>(model: &M, out: &mut [u8]) -> Result<usize, Refusal>
     ensures value { let file = file_of narrow (M.meaning model.now) in result ≡ (if nat_le (length file) (length out.old) then Ok (length file) else Err SliceTooSmall) }
     ensures after { let file = file_of narrow (M.meaning model.now) in out.new ≡ (if nat_le (length file) (length out.old) then file ++ drop (length file) out.old else out.old) }
@@ -33,6 +33,7 @@ pub fn pack<M: Model>(model: &M, out: &mut [u8]) -> Result<usize, Refusal>
     ensures accepted { verdict narrow (file_of narrow (M.meaning model.now)) ≡ Ok tt }
     ensures opens { let S = M.meaning model.now in opened narrow (file_of narrow S) ≡ S }
     ensures most { length (file_of narrow (M.meaning model.now)) ≤ most_bytes }
+    ensures room { length (file_of narrow (M.meaning model.now)) ≤ FILE_ROOM }
 {
     let size = file_size(model);
     if out.len() < size {
@@ -67,7 +68,7 @@ fn write_file<M: Model>(model: &M, file: &mut [u8])
     ensures { file.new ≡ file_of narrow (M.meaning model.now) }
 {
     let header = Header::of(model);
-    clear(file);
+    file.fill(0);
     header.write(file);
     for s in 0..header.states {
         let row = header.row(s);
@@ -76,16 +77,8 @@ fn write_file<M: Model>(model: &M, file: &mut [u8])
     }
 }
 
-// Fills the bytes with zeros.
-fn clear(file: &mut [u8])
-    ensures { file.new ≡ replicate (length file.old) 0 }
-{
-    file.fill(0);
-}
-
 // Writes the labels of state `s`, whose bits begin at place `row`.
 fn write_labels<M: Model>(model: &M, s: u16, row: usize, file: &mut [u8])
-    requires limits { Limits (M.meaning model.now) }
     requires inside { s < (M.meaning model.now).states }
     requires row { row ≡ row_at narrow (M.meaning model.now) s }
     requires written { Written (M.meaning model.now) file.old (row_at narrow (M.meaning model.now) s) }
@@ -98,9 +91,9 @@ fn write_labels<M: Model>(model: &M, s: u16, row: usize, file: &mut [u8])
     }
 }
 
-// Writes the steps of state `s`, whose bits begin at place `steps`.
+// Writes the steps of state `s`, whose bits begin at place `steps`. A loop over steps takes `next` apart until there is none: a rule of
+// the project.
 fn write_steps<M: Model>(model: &M, s: u16, steps: usize, file: &mut [u8])
-    requires limits { Limits (M.meaning model.now) }
     requires inside { s < (M.meaning model.now).states }
     requires steps { steps ≡ row_at narrow (M.meaning model.now) s + (M.meaning model.now).propositions }
     requires written { Written (M.meaning model.now) file.old (row_at narrow (M.meaning model.now) s + (M.meaning model.now).propositions) }

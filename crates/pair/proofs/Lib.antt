@@ -1,6 +1,4 @@
 pub mod BesideLaws
-pub mod Fitting
-pub mod Kept
 pub mod Moving
-pub mod Parts
 pub mod Stepping
+pub mod Width

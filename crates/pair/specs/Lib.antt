@@ -1,3 +1,5 @@
-pub mod Meant
+pub mod Fitting
+pub mod Kept
+pub mod Parts
 pub mod Rows
 pub mod Sides

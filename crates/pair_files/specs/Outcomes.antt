@@ -1,31 +1,31 @@
 -- What a reader must believe: what becomes of two files.
-use Rattle.std.specs.Prelude.{ℕ, ◌≤◌, cond, ◌&&◌, List, ◌++◌, length, drop, is_ok}
-use Rattle.packed.specs.FileOf.{file_of, most_bytes}
+use Rattle.std.specs.Prelude.{◌≡◌, ℕ, ◌⊎◌, List, IsOk, IsErr}
+use Rattle.packed.specs.FileOf.{file_of}
 use Rattle.packed.specs.Layout.{narrow}
 use Rattle.packed.specs.Verdict.{verdict, opened}
-use Rattle.pair.specs.Sides.{fit, paired}
-use Rattle.pair_files.specs.declared.Outcome.{Outcome}
-use Rattle.pair_files.specs.declared.Outcome.TheVariants.{Refused, Misfit, Packed}
+use Rattle.pair.specs.Sides.{Fit, paired}
+use Rattle.pair_files.specs.declared.NoPair.{NoPair}
+use Rattle.pair_files.specs.declared.NoPair.TheVariants.{Refused, Misfit, OutOfMemory}
 
--- the file of the pair of what the two files open as
-abbrev pub pair_file : List ℕ → List ℕ → List ℕ
-pair_file first second = file_of narrow (paired (opened narrow first) (opened narrow second))
+module _ (first second : List ℕ) where
+  -- the file of the pair of what the two files open as
+  abbrev pub pair_file : List ℕ
+  pair_file = file_of narrow (paired (opened narrow first) (opened narrow second))
 
--- no pair where one of them is refused, and none where their models do not fit together
-abbrev pub outcome_of : List ℕ → List ℕ → Outcome
-outcome_of first second =
-    cond (is_ok (verdict narrow first) && is_ok (verdict narrow second))
-    (cond (fit (opened narrow first) (opened narrow second)) (Packed (length (pair_file first second))) Misfit)
-    Refused
+  -- both files are accepted
+  abbrev pub Accepted : Type 0
+  Accepted = IsOk (verdict narrow first) × IsOk (verdict narrow second)
 
--- what the outcome leaves in a slice: the file at its front, or what it held
-abbrev pub written : Outcome → List ℕ → List ℕ → List ℕ
-written Refused file slice = slice
-written Misfit file slice = slice
-written (Packed n) file slice = file ++ drop (length file) slice
+  -- the models of the two files fit together
+  abbrev pub Fits : Type 0
+  Fits = Fit (opened narrow first) (opened narrow second)
 
--- a packed pair is no longer than the largest file
-abbrev pub Within : Outcome → Type 0
-Within Refused = Unit {0}
-Within Misfit = Unit {0}
-Within (Packed n) = n ≤ most_bytes
+  -- the two files have a pair, and `file` is its file
+  abbrev pub IsPairOf : List ℕ → Type 0
+  IsPairOf file = Accepted × Fits × (file ≡ pair_file)
+
+  -- what is so where they have none; memory is asked for only where they have one
+  abbrev pub Because : NoPair → Type 0
+  Because Refused = IsErr (verdict narrow first) ⊎ IsErr (verdict narrow second)
+  Because Misfit = Accepted × (¬ Fits)
+  Because (OutOfMemory _) = Accepted × Fits

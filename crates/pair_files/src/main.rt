@@ -2,102 +2,85 @@
 // With OUT the packed pair is written there as well.
 #![tactic(auto)]
 
-ghost use Rattle.std.specs.Prelude.{◌≡◌, length};
-ghost use Rattle.packed.specs.FileOf.{most_bytes};
-ghost use Rattle.pair_files.specs.Outcomes.{outcome_of, pair_file, written, Within};
+ghost use Rattle.std.specs.Prelude.{◌≤◌, IfOk, MatchResult, vec_len};
+ghost use Rattle.pair_files.specs.Outcomes.{IsPairOf, Because};
 
 use anyhow::anyhow;
-use packed::{FILE_ROOM, inspect, open, pack};
+use packed::{FILE_ROOM, Packed, pack};
 use pair::{Pair, fits};
-use report::{LINE_ROOM, headline};
-use std::alloc::Global;
+use program::{finish, first_line};
+use std::alloc::{AllocError, Global};
 use std::io::Write;
 use std::process::ExitCode;
-use std::{env, fs};
-use structure::MOST_STATES;
+use std::{env, fmt, fs};
+use thiserror::Error;
 
-// What becomes of two files.
-enum Outcome {
-    // One of them is refused.
+// Why two files have no pair.
+#[derive(Debug, Drop, Error)]
+enum NoPair {
+    #[error("a file is refused")]
     Refused,
-    // Their models do not fit together.
+    #[error("the models do not fit together")]
     Misfit,
-    // The file of the pair has so many bytes.
-    Packed(usize),
+    #[error(transparent)]
+    OutOfMemory(AllocError),
 }
 
 // The bytes of a file.
 fn read(rt: &HostRuntime, path: &str) -> anyhow::Result<Vec<u8>> {
-    match fs::read(rt, path) {
-        Ok(bytes) => Ok(bytes),
-        Err(error) => Err(anyhow!(format!(in rt.alloc(); "{path}: {error}")?)),
-    }
+    fs::read(rt, path).map_err(|error| anyhow!("{path}: {error}"))
 }
 
 // Writes the bytes of a file, and says so.
 fn write(rt: &HostRuntime, path: &str, bytes: &[u8]) -> anyhow::Result<()> {
-    match fs::write(rt, path, bytes) {
-        Ok(()) => {
-            println!(rt; "written: {path}")?;
-            Ok(())
-        }
-        Err(error) => Err(anyhow!(format!(in rt.alloc(); "{path}: {error}")?)),
-    }
-}
-
-// Prints the headline of a file behind its name.
-fn tell(rt: &HostRuntime, name: &str, bytes: &[u8]) -> anyhow::Result<()> {
-    let mut line = [0u8; LINE_ROOM];
-    let mut scratch = vec![in rt.alloc(); 0u16; 4 * MOST_STATES as usize]?;
-    match headline(bytes, &mut line, scratch.as_mut_slice()) {
-        Ok(length) => {
-            print!(rt; "{name}: ")?;
-            rt.stdout().write_all(&line[0..length])?;
-            Ok(())
-        }
-        // Both slices are as long as any file asks for.
-        Err(_) => Err(anyhow!("a slice is too small")),
-    }
-}
-
-// Bytes as pairs of hexadecimal digits, a space before each.
-fn hexadecimal(heap: Global, bytes: &[u8]) -> anyhow::Result<String> {
-    let mut text = String::new(heap);
-    for byte in bytes {
-        write!(text, " {byte:02X}")?;
-    }
-    Ok(text)
-}
-
-// Prints the headline and the bytes of the packed pair.
-fn tell_packed(rt: &HostRuntime, file: &[u8]) -> anyhow::Result<()> {
-    tell(rt, "pair", file)?;
-    let length = file.len();
-    let digits = hexadecimal(rt.alloc(), file)?;
-    println!(rt; "packed: {length} bytes:{digits}")?;
+    fs::write(rt, path, bytes).map_err(|error| anyhow!("{path}: {error}"))?;
+    println!(rt; "written: {path}")?;
     Ok(())
 }
 
-// Pairs the models of two files, and writes the file of the pair at the front of `room`, which has room for every file.
-fn pack_pair(first: &[u8], second: &[u8], room: &mut [u8]) -> Outcome
-    requires { length room.old ≡ most_bytes }
-    ensures value { result ≡ outcome_of first.now second.now }
-    ensures after { room.new ≡ written (outcome_of first.now second.now) (pair_file first.now second.now) room.old }
-    ensures within { Within result }
+// Prints the first line of the report on a file behind its name.
+fn tell(rt: &HostRuntime, name: &str, bytes: &[u8]) -> anyhow::Result<()> {
+    let line = first_line(rt.alloc(), bytes)?;
+    print!(rt; "{name}: ")?;
+    rt.stdout().write_all(line.as_slice())?;
+    Ok(())
+}
+
+// Bytes as pairs of hexadecimal digits, a space before each.
+#[derive(Drop)]
+struct Hexadecimal<'a>(&'a [u8]);
+
+impl fmt::Display for Hexadecimal<'_> {
+    fn fmt<W: fmt::Write>(&self, f: &mut fmt::Formatter<W>) -> fmt::Result {
+        for byte in self.0 {
+            write!(f, " {byte:02X}")?;
+        }
+        Ok(())
+    }
+}
+
+// Prints the first line of the report on the packed pair, and its bytes.
+fn tell_packed(rt: &HostRuntime, file: &[u8]) -> anyhow::Result<()> {
+    tell(rt, "pair", file)?;
+    println!(rt; "packed: {} bytes:{}", file.len(), Hexadecimal(file))?;
+    Ok(())
+}
+
+// The file of the pair of the models of two files.
+fn pack_pair(heap: Global, first: &[u8], second: &[u8]) -> Result<Vec<u8>, NoPair>
+    ensures answer { MatchResult result (λ file. IsPairOf first.now second.now file.items) (Because first.now second.now) }
+    ensures within { IfOk result (λ file. vec_len file ≤ FILE_ROOM) }
 {
-    if inspect(first).is_err() || inspect(second).is_err() {
-        return Outcome::Refused;
-    }
-    let first = open(first);
-    let second = open(second);
+    let (Ok(first), Ok(second)) = (Packed::try_from(first), Packed::try_from(second)) else {
+        return Err(NoPair::Refused);
+    };
     if !fits(&first, &second) {
-        return Outcome::Misfit;
+        return Err(NoPair::Misfit);
     }
-    match pack(&Pair::new(first, second), room) {
-        Ok(length) => Outcome::Packed(length),
-        // There is room for every file.
-        Err(_) => Outcome::Misfit,
-    }
+    // There is room for every file.
+    let mut room = [0; FILE_ROOM];
+    let length = pack(&Pair::new(first, second), &mut room).unwrap();
+    Vec::from_slice(heap, &room[..length]).map_err(NoPair::OutOfMemory)
 }
 
 fn run(rt: &HostRuntime) -> anyhow::Result<()> {
@@ -115,31 +98,19 @@ fn run(rt: &HostRuntime) -> anyhow::Result<()> {
     let second = read(rt, second.as_str())?;
     tell(rt, "first", first.as_slice())?;
     tell(rt, "second", second.as_slice())?;
-    let mut room = [0u8; FILE_ROOM];
-    match pack_pair(first.as_slice(), second.as_slice(), &mut room) {
-        Outcome::Refused => Err(anyhow!("a file is refused")),
-        Outcome::Misfit => {
-            println!(rt; "fits: no")?;
-            Err(anyhow!("the models do not fit together"))
-        }
-        Outcome::Packed(length) => {
-            println!(rt; "fits: yes")?;
-            tell_packed(rt, &room[0..length])?;
-            match out {
-                Some(path) => write(rt, path.as_str(), &room[0..length]),
-                None => Ok(()),
-            }
-        }
+    let pair = pack_pair(rt.alloc(), first.as_slice(), second.as_slice());
+    if let Err(NoPair::Misfit) = pair {
+        println!(rt; "fits: no")?;
+    }
+    let file = pair?;
+    println!(rt; "fits: yes")?;
+    tell_packed(rt, file.as_slice())?;
+    match out {
+        Some(path) => write(rt, path.as_str(), file.as_slice()),
+        None => Ok(()),
     }
 }
 
 fn main(rt: HostRuntime) -> ExitCode {
-    match run(&rt) {
-        Ok(()) => ExitCode::SUCCESS,
-        Err(error) => {
-            // Where the error stream takes nothing either, the status alone tells.
-            let _ = eprintln!(rt; "pair_files: {error}");
-            ExitCode::FAILURE
-        }
-    }
+    finish(&rt, "pair_files", run(&rt))
 }

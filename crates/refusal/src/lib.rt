@@ -3,72 +3,42 @@
 
 ghost use Rattle.std.specs.Prelude.{◌≡◌, ◌==◌};
 ghost use Rattle.refusal.specs.Numbers.{number_of};
-ghost use Rattle.std.specs.Cmp.{on_per, partial_equiv_from_equiv, nat_eq_equiv};
+ghost use Rattle.refusal.specs.declared.Refusal.{Refusal};
 
-#[derive(Clone, Copy, Debug)]
+#[derive(Clone, Copy, Debug, PartialEq, Eq)]
 pub enum Refusal {
     // A packed file.
-    TooFewBytes,
-    TooManyBytes,
-    FillingBitSet,
-    StartNotAState,
-    StateWithoutStep,
+    TooFewBytes = 1,
+    TooManyBytes = 2,
+    FillingBitSet = 3,
+    StartNotAState = 4,
+    StateWithoutStep = 5,
     // A lent slice, or a text that no slice may hold.
-    SliceTooSmall,
+    SliceTooSmall = 6,
     // The rows of a sheet.
-    TooFewFreeRows,
-    OperandAbsent,
-    PropositionAbsent,
-    GradeTooLarge,
+    TooFewFreeRows = 7,
+    OperandAbsent = 8,
+    PropositionAbsent = 9,
+    GradeTooLarge = 10,
     // The text of a formula.
-    LineTooLong,
-    MalformedToken,
-    TokenNotAllowed,
-    TooManyLevels,
+    LineTooLong = 11,
+    MalformedToken = 12,
+    TokenNotAllowed = 13,
+    TooManyLevels = 14,
     // A question about a row.
-    RowAbsent,
-    RowNotMarked,
-    StateAbsent,
-    FormWithoutQuestion,
-    NoSuchWay,
+    RowAbsent = 15,
+    RowNotMarked = 16,
+    StateAbsent = 17,
+    FormWithoutQuestion = 18,
+    NoSuchWay = 19,
 }
 
 impl Refusal {
-    // The number that reports and documents use for this cause.
+    // The number that reports and documents use for this cause. Causes are the same where their numbers are.
     pub fn number(self) -> u8
-        ensures { result ≡ number_of self }
+        ensures value { result ≡ number_of self }
+        ensures same { (other : Refusal) → ⟦<Refusal as PartialEq>⟧.eq self other ≡ (number_of self == number_of other) }
     {
-        match self {
-            Refusal::TooFewBytes => 1,
-            Refusal::TooManyBytes => 2,
-            Refusal::FillingBitSet => 3,
-            Refusal::StartNotAState => 4,
-            Refusal::StateWithoutStep => 5,
-            Refusal::SliceTooSmall => 6,
-            Refusal::TooFewFreeRows => 7,
-            Refusal::OperandAbsent => 8,
-            Refusal::PropositionAbsent => 9,
-            Refusal::GradeTooLarge => 10,
-            Refusal::LineTooLong => 11,
-            Refusal::MalformedToken => 12,
-            Refusal::TokenNotAllowed => 13,
-            Refusal::TooManyLevels => 14,
-            Refusal::RowAbsent => 15,
-            Refusal::RowNotMarked => 16,
-            Refusal::StateAbsent => 17,
-            Refusal::FormWithoutQuestion => 18,
-            Refusal::NoSuchWay => 19,
-        }
-    }
-}
-
-// Causes are the same where their numbers are.
-impl PartialEq for Refusal {
-    ghost eq = { λ a b. (number_of a == number_of b) };
-
-    ghost laws = { on_per number_of (partial_equiv_from_equiv nat_eq_equiv) };
-
-    fn eq(&self, other: &Refusal) -> bool {
-        self.number() == other.number()
+        self as u8
     }
 }

@@ -13,9 +13,7 @@ const THREE_STATES: [u8; 5] = [0x02, 0x00, 0x0d, 0xd4, 0x80];
 
 #[test]
 fn sides_of_sixteen_states(rt: HostRuntime) {
-    let mut sixteen = [0u8; 35];
-    sixteen[0] = 15;
-    ring(&mut sixteen, 16, 0);
+    let sixteen: [u8; 35] = ring(16, 0);
     let side = open(&sixteen);
     assert_eq!(rt; side.states(), 16);
     assert!(rt; fits(&side, &side));
@@ -40,12 +38,8 @@ fn sides_of_sixteen_states(rt: HostRuntime) {
 
 #[test]
 fn sides_of_sixteen_and_seventeen_states(rt: HostRuntime) {
-    let mut sixteen = [0u8; 35];
-    sixteen[0] = 15;
-    ring(&mut sixteen, 16, 0);
-    let mut seventeen = [0u8; 39];
-    seventeen[0] = 16;
-    ring(&mut seventeen, 17, 0);
+    let sixteen: [u8; 35] = ring(16, 0);
+    let seventeen: [u8; 39] = ring(17, 0);
     let first = open(&sixteen);
     let second = open(&seventeen);
     assert_eq!(rt; second.states(), 17);
@@ -66,12 +60,8 @@ fn sides_of_sixteen_and_seventeen_states(rt: HostRuntime) {
 
 #[test]
 fn propositions_together(rt: HostRuntime) {
-    let mut fifteen = [0u8; 5];
-    fifteen[2] = 15 << 3;
-    ring(&mut fifteen, 1, 15);
-    let mut sixteen = [0u8; 5];
-    sixteen[2] = 16 << 3;
-    ring(&mut sixteen, 1, 16);
+    let fifteen: [u8; 5] = ring(1, 15);
+    let sixteen: [u8; 5] = ring(1, 16);
     let fewer = open(&fifteen);
     let more = open(&sixteen);
     assert!(rt; fits(&fewer, &more));
@@ -146,10 +136,7 @@ fn slice_a_byte_short(rt: HostRuntime) {
 
 #[test]
 fn largest_file_again(rt: HostRuntime) {
-    let mut bytes = [0u8; FILE_ROOM];
-    bytes[0] = 255;
-    bytes[2] = 31 << 3;
-    ring(&mut bytes, 256, 31);
+    let bytes: [u8; FILE_ROOM] = ring(256, 31);
     let mut out = [7u8; FILE_ROOM];
     assert_eq!(rt;
         pack(&open(&bytes), &mut out[1..FILE_ROOM]),

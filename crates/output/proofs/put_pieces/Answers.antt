@@ -1,14 +1,13 @@
--- One more piece has room and goes behind the others; at the end all are written.
-use Rattle.std.proofs.Common.{rules}
-use Rattle.std.proofs.lemmas.List.{take_all}
-use Rattle.output.proofs.Joining.{spelled_all_more, length_more, length_first, front_more}
+-- There is room for one more piece, and it goes behind the others.
+use Rattle.std.proofs.Common.{arith}
+use Rattle.std.proofs.lemmas.Grind.{common_steps}
+use Rattle.std.proofs.lemmas.List.Folds.{length-flat_map-take}
+use Rattle.std.proofs.lemmas.Slice.{overwrites}
+use Rattle.output.specs.Pieces.{spelled}
 use Rattle.output.proofs.put_pieces.Goals as goal
 
-pub put_piece-at-requires : goal.put_piece-at-requires
-put_piece-at-requires c = search (rules, length_more, length_first)
+pub slice_bounds-copy_from_slice-end : goal.slice_bounds-copy_from_slice-end
+slice_bounds-copy_from_slice-end c = grind (arith, length-flat_map-take spelled)
 
 pub loop-piece-preserved : goal.loop-piece-preserved
-loop-piece-preserved c = search (rules, spelled_all_more, length_more, front_more)
-
-pub returns : goal.returns
-returns c = search (rules, take_all)
+loop-piece-preserved c = grind (arith, common_steps, overwrites)

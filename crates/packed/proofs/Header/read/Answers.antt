@@ -1,6 +1,5 @@
 -- The three fields lie in the first three bytes.
 use Rattle.std.proofs.Common.{◌/◌, sym, ap, ◌∙◌, arith}
-use Rattle.std.proofs.lemmas.Nat.{div_below}
 use Rattle.packed.proofs.FieldLaws.{states_of_byte, start_of_byte, propositions_of_byte}
 use Rattle.packed.proofs.Header.read.Goals as goal
 
@@ -12,5 +11,4 @@ returns c =
       states = omega (arith, states_of_byte bytes (omega (arith, narrow-byte 0)));
       start = omega (arith, start_of_byte bytes (omega (arith, narrow-byte 1)));
       propositions = ap (λ b. b / 8) c.byte_at-3.ensures ∙ sym (propositions_of_byte bytes (omega (arith, narrow-byte 2)));
-      small = (omega arith, div_below c.byte_at-3.result 8 32 (omega arith) (omega arith));
     }

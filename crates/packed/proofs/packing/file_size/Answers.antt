@@ -1,6 +1,5 @@
 -- The fields of a model's file take the bytes of the file; and the file laws say what it opens as.
-use Rattle.std.proofs.Common.{◌+◌, ◌*◌, ◌/◌, is_ok, sym, ap, ◌∙◌, arith}
-use Rattle.std.proofs.lemmas.Nat.{mul-le}
+use Rattle.std.proofs.Common.{◌+◌, ◌*◌, ◌/◌, is_ok, sym, ap, ◌∙◌}
 use Rattle.std.proofs.lemmas.Bool.{cond-true}
 use Rattle.structure.specs.Structure.{still}
 use Rattle.packed.specs.FileOf.{file_of, file_size}
@@ -13,13 +12,13 @@ pub returns : goal.returns
 unfolding file_size
 returns g c =
     let S = g.M.Model.meaning c.args.model.now in
+    let keeps = g.met.M.Model.keeps c.args.model.now in
     let told = c.of.ensures in
-    let most = mul-le c.of.result.states (c.of.result.propositions + c.of.result.states) 256 287 (omega (arith, told.states, told.keeps.bounded)) (omega (arith, told.states, told.keeps.bounded, told.propositions, told.keeps.described)) in
-    let room = narrow_room S told.keeps in
-    let passed = file_accepted narrow S told.keeps room in
+    let room = narrow_room S keeps in
+    let passed = file_accepted narrow S keeps room in
     record {
-      value = c.size.ensures ∙ (λ i. (21 + told.states i * (told.propositions i + told.states i) + 7) / 8) ∙ sym (length-file_of narrow S);
+      value = c.size.ensures.bytes ∙ (λ i. (21 + told.states i * (told.propositions i + told.states i) + 7) / 8) ∙ sym (length-file_of narrow S);
       accepted = passed;
-      most = omega (arith, c.size.ensures);
-      opens = cond-true (is_ok (verdict narrow (file_of narrow S))) (spells narrow (file_of narrow S)) still (ap is_ok passed) ∙ file_spells narrow S told.keeps room;
+      most = c.size.ensures.most;
+      opens = cond-true (is_ok (verdict narrow (file_of narrow S))) (spells narrow (file_of narrow S)) still (ap is_ok passed) ∙ file_spells narrow S keeps room;
     }

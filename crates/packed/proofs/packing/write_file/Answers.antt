@@ -1,6 +1,5 @@
 -- The header begins the file, and it is written when the last state is.
-use Rattle.std.proofs.Common.{◌≡◌, ℕ, ◌-◌, ◌*◌, length, set, replicate, sym, ap, ◌∙◌, subst, arith}
-use Rattle.std.proofs.lemmas.List.{length-replicate}
+use Rattle.std.proofs.Common.{◌≡◌, ◌-◌, ◌*◌, length, set, replicate, sym, ap, ◌∙◌, subst, arith, rules}
 use Rattle.packed.specs.Layout.{narrow}
 use Rattle.packed.specs.FileOf.{row_at}
 use Rattle.packed.specs.Writing.{Written}
@@ -9,22 +8,15 @@ use Rattle.packed.proofs.WritingLaws.{three_bytes, header_begins, all_written}
 use Rattle.packed.proofs.packing.write_file.Goals as goal
 
 pub write-requires : goal.write-requires
-write-requires g c =
-    let S = g.M.Model.meaning c.args.model.now in
-    let told = c.of-header.ensures in
-    record {
-      states = (omega (arith, told.states, told.keeps.inhabited), omega (arith, told.states, told.keeps.bounded));
-      start = omega (arith, told.start, told.keeps.starts, told.keeps.bounded);
-      propositions = omega (arith, told.propositions, told.keeps.described);
-      room = omega (arith, ap length c.clear.ensures, length-replicate {A = ℕ} (length c.args.file.now) 0, c.requires, length-file_of narrow S, three_bytes S);
-    }
+write-requires g c = let S = g.M.Model.meaning c.args.model.now in omega (arith, c.fill.ensures.len, c.requires, length-file_of narrow S, three_bytes S)
 
 pub loop-s-init : goal.loop-s-init
 loop-s-init g c =
     let S = g.M.Model.meaning c.args.model.now in
     let told = c.of-header.ensures in
-    let fields : set (set (set (replicate (length c.args.file.now) 0) 0 (S.states - 1)) 1 S.start) 2 (S.propositions * 8) ≡ c.write.new.file = sym (c.write.ensures ∙ (λ i. set (set (set (c.clear.ensures i) 0 (told.states i - 1)) 1 (told.start i)) 2 (told.propositions i * 8))) in
-    (subst (λ file. Written S file (row_at narrow S 0)) fields (header_begins S told.keeps (length c.args.file.now) (c.requires ∙ length-file_of narrow S)), λ k. omega (arith, c.type_inv.file k))
+    let zeros : c.fill.new.self ≡ replicate (length c.args.file.now) 0 = search rules in
+    let fields : set (set (set (replicate (length c.args.file.now) 0) 0 (S.states - 1)) 1 S.start) 2 (S.propositions * 8) ≡ c.write.new.file = sym (c.write.ensures ∙ (λ i. set (set (set (zeros i) 0 (told.states i - 1)) 1 (told.start i)) 2 (told.propositions i * 8))) in
+    (subst (λ file. Written S file (row_at narrow S 0)) fields (header_begins S (g.met.M.Model.keeps c.args.model.now) (length c.args.file.now) (c.requires ∙ length-file_of narrow S)), λ k. omega (arith, c.type_inv.file k))
 
 pub returns : goal.returns
 returns g c =

@@ -11,7 +11,7 @@ pub set_bit-requires : goal.set_bit-requires
 set_bit-requires g c =
     let S = g.M.Model.meaning c.args.model.now in
     let next = c.in-Some.ensures.smallest in
-    let there = (c.requires.limits.steps c.args.s c.in-Some.t next.1).1 in
+    let there = ((g.met.M.Model.keeps c.args.model.now).steps c.args.s c.in-Some.t next.1).1 in
     let t = row_inside S c.args.s c.requires.inside (S.propositions + c.in-Some.t) (omega arith) in
     omega (arith, c.requires.steps, c.from.ensures, in_file S c.loop-t.file _ c.loop-t.invariant.0 (row_at narrow S c.args.s + (S.propositions + c.in-Some.t)) t)
 
@@ -21,7 +21,7 @@ loop-t-preserved g c =
     let s = c.args.s in
     let t = c.in-Some.t in
     let next = c.in-Some.ensures.smallest in
-    let there = (c.requires.limits.steps s t next.1).1 in
+    let there = ((g.met.M.Model.keeps c.args.model.now).steps s t next.1).1 in
     let before = no_step_between S s c.requires.inside c.loop-t.file c.loop-t.from t next.0 (omega arith) c.loop-t.invariant.0 next.2 in
     let place : c.args.steps + c.from.result ≡ row_at narrow S s + S.propositions + t = omega (arith, c.requires.steps, c.from.ensures) in (
       step_present S s c.requires.inside c.loop-t.file t c.set_bit.new.file there before next.1 c.set_bit.ensures.size

@@ -1,5 +1,0 @@
--- The number falls.
-use Rattle.output.proofs.+digits.Given as goal
-
-abbrev pub decreases-digits : goal.decreases-digits
-decreases-digits l = l.number

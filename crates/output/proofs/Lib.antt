@@ -1,3 +1,0 @@
-mod Writing
-mod Joining
-pub mod Lengths
