@@ -7,7 +7,7 @@ use report::headline;
 
 mod pairs_and_packing;
 
-// The bytes of a file of 256 states with 31 propositions.
+// The bytes of a file of 256 states with 31 propositions. The numbers here are the tests' own.
 const LARGEST: usize = 9187;
 
 // The bytes of one without propositions, and the numbers of bytes around it.

@@ -9,7 +9,8 @@ ghost use Rattle.figures.specs.Files.{two_states_file, two_states_model, still_f
 use packed::inspect;
 use refusal::Refusal;
 
-// What `inspect` says of each worked file, also as a number: 0 where it accepts, else that of the cause.
+// What `inspect` says of each worked file; the clause `numbers` says it as numbers. A `map` over the files was tried: its proof does not
+// close.
 pub fn packed_figures() -> [Result<(), Refusal>; 12]
     ensures verdicts { result ≡ Ok tt ∷ Ok tt ∷ Ok tt ∷ Ok tt ∷ Ok tt ∷ Ok tt ∷ Err TooFewBytes ∷ Err TooManyBytes ∷ Err FillingBitSet ∷ Err FillingBitSet ∷ Err StartNotAState ∷ Err StateWithoutStep ∷ [] }
     ensures numbers { map spoken result ≡ 0 ∷ 0 ∷ 0 ∷ 0 ∷ 0 ∷ 0 ∷ 1 ∷ 2 ∷ 3 ∷ 3 ∷ 4 ∷ 5 ∷ [] }

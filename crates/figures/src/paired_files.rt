@@ -22,10 +22,5 @@ pub fn pair_figures() -> [Option<u16>; 4]
 fn first_steps<M: Model>(model: &M) -> [Option<u16>; 4]
     ensures { let S = M.meaning model.now in result ≡ next_of S 0 0 ∷ next_of S 0 1 ∷ next_of S 0 2 ∷ next_of S 0 3 ∷ [] }
 {
-    [
-        model.next(0, 0),
-        model.next(0, 1),
-        model.next(0, 2),
-        model.next(0, 3),
-    ]
+    [0, 1, 2, 3].map(|t| model.next(0, t))
 }

@@ -3,11 +3,13 @@
 
 use anyhow::anyhow;
 use program::{finish, first_line};
+use report::LINE_ROOM;
 use std::fs;
 use std::io::{ErrorKind, Write};
 use std::process::ExitCode;
 
 // The bytes of the file, none where it is missing. `pair_files` reads files without this exception: one function for both is no plainer.
+// An error is one text, as there.
 fn read_model(rt: &HostRuntime) -> anyhow::Result<Vec<u8>> {
     match fs::read(rt, "model.bin") {
         Ok(bytes) => Ok(bytes),
@@ -18,8 +20,9 @@ fn read_model(rt: &HostRuntime) -> anyhow::Result<Vec<u8>> {
 
 fn run(rt: &HostRuntime) -> anyhow::Result<()> {
     let bytes = read_model(rt)?;
-    let line = first_line(rt.alloc(), bytes.as_slice())?;
-    rt.stdout().write_all(line.as_slice())?;
+    let mut room = [0; LINE_ROOM];
+    rt.stdout()
+        .write_all(first_line(bytes.as_slice(), &mut room))?;
     Ok(())
 }
 

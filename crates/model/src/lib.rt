@@ -61,7 +61,7 @@ impl Model for Still {
     }
 
     fn next(&self, s: u16, t: u16) -> Option<u16> {
-        if s == 0 && t == 0 { Some(0) } else { None }
+        (s == 0 && t == 0).then_some(0)
     }
 }
 

@@ -30,7 +30,7 @@ impl Piece<'_> {
 }
 
 // Writes the pieces one after another at the front of `out`, and gives their length together.
-// Where they are longer than `out`, it writes nothing. The slice is lent and a length is given: a rule of the project, which has no heap.
+// Where they are longer than `out`, it writes nothing. The slice is lent and a length is given: a rule of the project: no heap in libraries.
 pub fn write_line(out: &mut [u8], pieces: &[Piece]) -> Result<usize, Refusal>
     ensures value { let text = spelled_all pieces.now in result ≡ (if nat_le (length text) (length out.old) then Ok (length text) else Err SliceTooSmall) }
     ensures after { let text = spelled_all pieces.now in out.new ≡ (if nat_le (length text) (length out.old) then text ++ drop (length text) out.old else out.old) }
@@ -43,8 +43,8 @@ pub fn write_line(out: &mut [u8], pieces: &[Piece]) -> Result<usize, Refusal>
     Ok(total)
 }
 
-// The length of the pieces together, but at most `usize::MAX`. No slice is that long. A `fold` is no plainer: it needs a buffer for each
-// piece, and a proof of the chain by hand.
+// The length of the pieces together, but at most `usize::MAX`. No slice is that long. A `fold` was tried:
+// its proof closes only with the lemma of the chain by hand.
 fn measure(pieces: &[Piece]) -> usize
     ensures { result ≡ min (length (spelled_all pieces.now)) usize.MAX }
 {
@@ -56,8 +56,8 @@ fn measure(pieces: &[Piece]) -> usize
     total
 }
 
-// Writes the pieces at the front of `out`, which has room for them. The place is kept by hand: with the rest of the slice in its stead the
-// proof does not close, since an invariant cannot speak of the parts that were given up.
+// Writes the pieces at the front of `out`, which has room for them. To keep the rest of the slice in place of a number was tried: an
+// invariant cannot name the parts that are written already, and the proof does not close.
 fn put_pieces(out: &mut [u8], pieces: &[Piece])
     requires { length (spelled_all pieces.now) ≤ length out.old }
     ensures { out.new ≡ spelled_all pieces.now ++ drop (length (spelled_all pieces.now)) out.old }

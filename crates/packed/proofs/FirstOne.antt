@@ -31,6 +31,10 @@ module _ (bytes : List ℕ) (from to : ℕ) where
       (λ ge. and_left (ltb u to) (bit_at bytes u) (le-ltb u to ge))
       (cases_lt u to)
 
+  -- and where no byte up to the one with place `to` holds a 1
+  pub none_in_bytes : Zeros bytes from ((to / 8 + 1) * 8) → Smallest sought from None
+  none_in_bytes zeros = none_sought (λ i le lt. zeros i le (omega (arith, div-add-mod' to 8, mod_below to 8)))
+
   -- bytes that are 0 hold no 1
   pub zeros_on : (k n : ℕ) → Zeros bytes from (k * 8) → ((j : ℕ) → k ≤ j → j < n → get_or bytes j 0 ≡ 0) → Zeros bytes from (n * 8)
   zeros_on k n zeros none i le lt =

@@ -1,6 +1,7 @@
 // The judge of packed files.
-ghost use Rattle.std.specs.Prelude.{◌≡◌, ◌+◌, ◌^◌, ◌<◌, ◌≤◌, length};
-ghost use Rattle.packed.specs.Layout.{narrow, size_of, bits_of};
+ghost use Rattle.std.specs.Prelude.{◌≡◌, ◌+◌, ◌<◌, ◌≤◌, length};
+ghost use Rattle.packed.specs.FileOf.{most_bytes};
+ghost use Rattle.packed.specs.Layout.{narrow, size_of};
 ghost use Rattle.packed.specs.Verdict.{filled, stuck, verdict, Judged};
 
 use crate::{File, bit, first_one};
@@ -38,31 +39,25 @@ impl File<'_> {
         Ok(())
     }
 
-    // The bits of all fields together.
-    fn bits(&self) -> usize
-        ensures value { result ≡ bits_of narrow self.now.bytes.now }
-        ensures bound { result < 2 ^ 25 }
-    {
-        self.row(self.header.states)
-    }
-
     // The bytes that the fields take.
     fn size(&self) -> usize
         ensures value { result ≡ size_of narrow self.now.bytes.now }
-        ensures bound { result ≤ 10000 }
+        ensures bound { result ≤ most_bytes }
     {
         self.header.size()
     }
 
     // Whether a bit after the layout's last is 1.
     fn has_filling_bit(&self) -> bool
-        requires { length self.now.bytes.now ≤ 10000 }
+        requires { length self.now.bytes.now ≤ most_bytes }
         ensures { result ≡ filled narrow self.now.bytes.now }
     {
-        first_one(self.bytes, self.bits(), self.bytes.len() * 8).is_some()
+        let end = self.row(self.header.states);
+        first_one(self.bytes, end, self.bytes.len() * 8).is_some()
     }
 
-    // Whether some state has no step. Two loops, of which the outer is left by its label at the first of these: a rule of the project.
+    // Whether some state has no step. A rule of the project asks for two loops and for the label: the outer one is left by it at the first
+    // state without a step, and the flag says so.
     fn has_dead_end(&self) -> bool
         ensures { result ≡ stuck narrow self.now.bytes.now }
     {

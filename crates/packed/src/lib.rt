@@ -1,11 +1,10 @@
 // Packed models: the file layout, its judge, the model of an accepted file and the file of a model. No other library crate knows the layout.
-// This module has the bits of a file, its fixed fields and the type of an accepted file.
+// This module has the bits of a file, its fixed fields, and the types of a file and of an accepted one.
 #![tactic(auto)]
 
 ghost use Rattle.std.specs.Prelude.{◌≡◌, ◌+◌, ◌-◌, ◌*◌, ◌/◌, ◌^◌, ◌<◌, ◌≤◌, true, ◌&&◌, not, ltb, length, is_ok, if◌then◌else◌, Some, None, nat_lt, ◌==◌, position, slice_index, slice_set};
 ghost use Rattle.std.specs.Int.Count.{count_leading_zeros};
 ghost use Rattle.structure.specs.Next.{Smallest};
-ghost use Rattle.structure.specs.Structure.{Limits};
 ghost use Rattle.packed.specs.Bits.{bit_at};
 ghost use Rattle.packed.specs.FileOf.{most_bytes};
 ghost use Rattle.packed.specs.Layout.{narrow, states_of, start_of, propositions_of, row_of};
@@ -45,7 +44,7 @@ fn leading_one(byte: u8, at: usize, to: usize) -> Option<usize>
     ensures { result ≡ (if ltb (at * 8 + count_leading_zeros 8 byte) to then Some (at * 8 + count_leading_zeros 8 byte) else None) }
 {
     let place = at * 8 + byte.leading_zeros() as usize;
-    if place < to { Some(place) } else { None }
+    (place < to).then_some(place)
 }
 
 // The place of the first 1 from place `from` on and before `to`. It goes by whole bytes.
@@ -126,12 +125,13 @@ impl Header {
         HEADER_BITS + usize::from(s) * (usize::from(self.propositions) + usize::from(self.states))
     }
 
-    // The bytes that the fields take: they end where a state after the last would begin.
+    // The bytes that the fields take: they end where a state after the last would begin. That the largest file has no more is handed up by
+    // `File::size` and `file_size`, since a type for a length would be no plainer.
     fn size(self) -> usize
         ensures bytes { result ≡ (21 + self.states * (self.propositions + self.states) + 7) / 8 }
         ensures most { result ≤ most_bytes }
     {
-        (self.row(self.states) + 7) / 8
+        self.row(self.states).div_ceil(8)
     }
 }
 

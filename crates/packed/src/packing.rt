@@ -1,7 +1,6 @@
 // Models written as files.
-ghost use Rattle.std.specs.Prelude.{◌≡◌, ℕ, ◌+◌, ◌*◌, ◌<◌, ◌≤◌, ◌||◌, ◌++◌, length, drop, replicate, IfOk, if◌then◌else◌, Ok, Err, ◌==◌, nat_le};
+ghost use Rattle.std.specs.Prelude.{◌≡◌, ℕ, ◌+◌, ◌*◌, ◌<◌, ◌≤◌, ◌||◌, ◌++◌, length, drop, IfOk, if◌then◌else◌, Ok, Err, ◌==◌, nat_le};
 ghost use Rattle.refusal.specs.declared.Refusal.TheVariants.{SliceTooSmall};
-ghost use Rattle.structure.specs.Structure.{Limits};
 ghost use Rattle.packed.specs.Bits.{bit_at};
 ghost use Rattle.packed.specs.FileOf.{file_of, most_bytes, row_at};
 ghost use Rattle.packed.specs.Layout.{narrow};
@@ -25,7 +24,7 @@ pub fn file_room() -> usize
 }
 
 // Writes the file of a model at the front of `out`, and gives its length. Where `out` is shorter, it writes nothing.
-// Opened again, the file means what the model means. The slice is lent and a length is given: a rule of the project, which has no heap.
+// Opened again, the file means what the model means. The slice is lent and a length is given (a rule of the project: no heap in libraries).
 pub fn pack<M: Model>(model: &M, out: &mut [u8]) -> Result<usize, Refusal>
     ensures value { let file = file_of narrow (M.meaning model.now) in result ≡ (if nat_le (length file) (length out.old) then Ok (length file) else Err SliceTooSmall) }
     ensures after { let file = file_of narrow (M.meaning model.now) in out.new ≡ (if nat_le (length file) (length out.old) then file ++ drop (length file) out.old else out.old) }
@@ -39,7 +38,7 @@ pub fn pack<M: Model>(model: &M, out: &mut [u8]) -> Result<usize, Refusal>
     if out.len() < size {
         return Err(Refusal::SliceTooSmall);
     }
-    write_front(model, out, size);
+    write_file(model, &mut out[..size]);
     Ok(size)
 }
 
@@ -51,15 +50,6 @@ fn file_size<M: Model>(model: &M) -> usize
     ensures most { result ≤ most_bytes }
 {
     Header::of(model).size()
-}
-
-// Writes the model's file, which has `size` bytes, at the front of `out`.
-fn write_front<M: Model>(model: &M, out: &mut [u8], size: usize)
-    requires size { size ≡ length (file_of narrow (M.meaning model.now)) }
-    requires room { size ≤ length out.old }
-    ensures { let file = file_of narrow (M.meaning model.now) in out.new ≡ file ++ drop (length file) out.old }
-{
-    write_file(model, &mut out[0..size]);
 }
 
 // Writes the model's file, which is as long as `file`.
@@ -91,8 +81,8 @@ fn write_labels<M: Model>(model: &M, s: u16, row: usize, file: &mut [u8])
     }
 }
 
-// Writes the steps of state `s`, whose bits begin at place `steps`. A loop over steps takes `next` apart until there is none: a rule of
-// the project.
+// Writes the steps of state `s`, whose bits begin at place `steps`. The loop asks `next` until it answers
+// `None`: a rule of the project.
 fn write_steps<M: Model>(model: &M, s: u16, steps: usize, file: &mut [u8])
     requires inside { s < (M.meaning model.now).states }
     requires steps { steps ≡ row_at narrow (M.meaning model.now) s + (M.meaning model.now).propositions }

@@ -1,4 +1,3 @@
 pub mod BesideLaws
 pub mod Moving
 pub mod Stepping
-pub mod Width

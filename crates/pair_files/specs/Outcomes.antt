@@ -1,11 +1,11 @@
 -- What a reader must believe: what becomes of two files.
-use Rattle.std.specs.Prelude.{◌≡◌, ℕ, ◌⊎◌, List, IsOk, IsErr}
+use Rattle.std.specs.Prelude.{◌≡◌, ℕ, ◌⊎◌, List, IsOk, Err}
 use Rattle.packed.specs.FileOf.{file_of}
 use Rattle.packed.specs.Layout.{narrow}
 use Rattle.packed.specs.Verdict.{verdict, opened}
 use Rattle.pair.specs.Sides.{Fit, paired}
 use Rattle.pair_files.specs.declared.NoPair.{NoPair}
-use Rattle.pair_files.specs.declared.NoPair.TheVariants.{Refused, Misfit, OutOfMemory}
+use Rattle.pair_files.specs.declared.NoPair.TheVariants.{Refused, Misfit}
 
 module _ (first second : List ℕ) where
   -- the file of the pair of what the two files open as
@@ -24,8 +24,8 @@ module _ (first second : List ℕ) where
   abbrev pub IsPairOf : List ℕ → Type 0
   IsPairOf file = Accepted × Fits × (file ≡ pair_file)
 
-  -- what is so where they have none; memory is asked for only where they have one
+  -- what is so where they have none: the first file is refused for this cause, or only the second is; or their models do not fit. This and
+  -- `IsPairOf` exclude one another, so that each answer comes exactly where it is so
   abbrev pub Because : NoPair → Type 0
-  Because Refused = IsErr (verdict narrow first) ⊎ IsErr (verdict narrow second)
+  Because (Refused cause) = (verdict narrow first ≡ Err cause) ⊎ (IsOk (verdict narrow first) × (verdict narrow second ≡ Err cause))
   Because Misfit = Accepted × (¬ Fits)
-  Because (OutOfMemory _) = Accepted × Fits

@@ -2,14 +2,16 @@
 // With OUT the packed pair is written there as well.
 #![tactic(auto)]
 
-ghost use Rattle.std.specs.Prelude.{◌≤◌, IfOk, MatchResult, vec_len};
+ghost use Rattle.std.specs.Prelude.{◌≡◌, MatchResult};
 ghost use Rattle.pair_files.specs.Outcomes.{IsPairOf, Because};
+ghost use Rattle.pair_files.specs.declared.NoPair.TheVariants.{Refused};
 
 use anyhow::anyhow;
 use packed::{FILE_ROOM, Packed, pack};
 use pair::{Pair, fits};
 use program::{finish, first_line};
-use std::alloc::{AllocError, Global};
+use refusal::Refusal;
+use report::LINE_ROOM;
 use std::io::Write;
 use std::process::ExitCode;
 use std::{env, fmt, fs};
@@ -19,14 +21,21 @@ use thiserror::Error;
 #[derive(Debug, Drop, Error)]
 enum NoPair {
     #[error("a file is refused")]
-    Refused,
+    Refused(Refusal),
     #[error("the models do not fit together")]
     Misfit,
-    #[error(transparent)]
-    OutOfMemory(AllocError),
 }
 
-// The bytes of a file.
+impl From<Refusal> for NoPair {
+    ghost from_gives = { λ cause reason. reason ≡ Refused cause };
+
+    fn from(cause: Refusal) -> NoPair {
+        NoPair::Refused(cause)
+    }
+}
+
+// The bytes of a file. Here and below an error is one text: as a `context` the name would be cut elsewhere where it is long, and the program
+// would not print what it did.
 fn read(rt: &HostRuntime, path: &str) -> anyhow::Result<Vec<u8>> {
     fs::read(rt, path).map_err(|error| anyhow!("{path}: {error}"))
 }
@@ -38,11 +47,11 @@ fn write(rt: &HostRuntime, path: &str, bytes: &[u8]) -> anyhow::Result<()> {
     Ok(())
 }
 
-// Prints the first line of the report on a file behind its name.
+// Prints the first line of the report on a file after its name.
 fn tell(rt: &HostRuntime, name: &str, bytes: &[u8]) -> anyhow::Result<()> {
-    let line = first_line(rt.alloc(), bytes)?;
+    let mut room = [0; LINE_ROOM];
     print!(rt; "{name}: ")?;
-    rt.stdout().write_all(line.as_slice())?;
+    rt.stdout().write_all(first_line(bytes, &mut room))?;
     Ok(())
 }
 
@@ -66,21 +75,21 @@ fn tell_packed(rt: &HostRuntime, file: &[u8]) -> anyhow::Result<()> {
     Ok(())
 }
 
-// The file of the pair of the models of two files.
-fn pack_pair(heap: Global, first: &[u8], second: &[u8]) -> Result<Vec<u8>, NoPair>
-    ensures answer { MatchResult result (λ file. IsPairOf first.now second.now file.items) (Because first.now second.now) }
-    ensures within { IfOk result (λ file. vec_len file ≤ FILE_ROOM) }
+// The file of the pair of the models of two files, written at the front of the room, in which every file has room.
+fn pack_pair<'a>(
+    first: &[u8],
+    second: &[u8],
+    room: &'a mut [u8; FILE_ROOM],
+) -> Result<&'a [u8], NoPair>
+    ensures { MatchResult result (λ file. IsPairOf first.now second.now file.now) (Because first.now second.now) }
 {
-    let (Ok(first), Ok(second)) = (Packed::try_from(first), Packed::try_from(second)) else {
-        return Err(NoPair::Refused);
-    };
+    let first = Packed::try_from(first)?;
+    let second = Packed::try_from(second)?;
     if !fits(&first, &second) {
         return Err(NoPair::Misfit);
     }
-    // There is room for every file.
-    let mut room = [0; FILE_ROOM];
-    let length = pack(&Pair::new(first, second), &mut room).unwrap();
-    Vec::from_slice(heap, &room[..length]).map_err(NoPair::OutOfMemory)
+    let length = pack(&Pair::new(first, second), room).unwrap();
+    Ok(&room[..length])
 }
 
 fn run(rt: &HostRuntime) -> anyhow::Result<()> {
@@ -98,15 +107,20 @@ fn run(rt: &HostRuntime) -> anyhow::Result<()> {
     let second = read(rt, second.as_str())?;
     tell(rt, "first", first.as_slice())?;
     tell(rt, "second", second.as_slice())?;
-    let pair = pack_pair(rt.alloc(), first.as_slice(), second.as_slice());
-    if let Err(NoPair::Misfit) = pair {
-        println!(rt; "fits: no")?;
-    }
-    let file = pair?;
+    let mut room = [0; FILE_ROOM];
+    let file = match pack_pair(first.as_slice(), second.as_slice(), &mut room) {
+        Ok(file) => file,
+        Err(reason) => {
+            if let NoPair::Misfit = reason {
+                println!(rt; "fits: no")?;
+            }
+            return Err(reason.into());
+        }
+    };
     println!(rt; "fits: yes")?;
-    tell_packed(rt, file.as_slice())?;
+    tell_packed(rt, file)?;
     match out {
-        Some(path) => write(rt, path.as_str(), file.as_slice()),
+        Some(path) => write(rt, path.as_str(), file),
         None => Ok(()),
     }
 }

@@ -31,10 +31,10 @@ headline_of bytes = judged_line bytes (verdict narrow bytes)
 abbrev pub line_room : ℕ
 line_room = 1024
 
--- slices of these lengths are long enough for the line of a structure
-abbrev pub roomy : Structure → ℕ → ℕ → Bool
-roomy S out scratch = nat_le line_room out && nat_le (4 * S.states) scratch
+-- slices of these lengths are long enough for the line of a model with so many states
+abbrev pub roomy : ℕ → ℕ → ℕ → Bool
+roomy states out scratch = nat_le line_room out && nat_le (4 * states) scratch
 
 -- slices of these lengths suffice: a refused file counts as the still model
 abbrev pub suffices : List ℕ → ℕ → ℕ → Bool
-suffices bytes out scratch = nat_le line_room out && nat_le (4 * (opened narrow bytes).states) scratch
+suffices bytes out scratch = roomy (opened narrow bytes).states out scratch
