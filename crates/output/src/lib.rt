@@ -43,8 +43,8 @@ pub fn write_line(out: &mut [u8], pieces: &[Piece]) -> Result<usize, Refusal>
     Ok(total)
 }
 
-// The length of the pieces together, but at most `usize::MAX`. No slice is that long. A `fold` was tried:
-// its proof closes only with the lemma of the chain by hand.
+// The length of the pieces together, but at most `usize::MAX`. No slice is that long. A `fold` is no
+// plainer: its proof takes the lemma of the chain by hand, where the loop needs its invariant alone.
 fn measure(pieces: &[Piece]) -> usize
     ensures { result ≡ min (length (spelled_all pieces.now)) usize.MAX }
 {

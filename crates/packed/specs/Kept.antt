@@ -1,5 +1,6 @@
 -- Nothing in this file has to be believed: it proves that an accepted file spells a structure that keeps the limits, which the law of
--- `Model` asks of packed models. It stands here because an implementation takes the proof of a law from `specs`.
+-- `Model` asks of packed models. It stands here because an implementation takes the proof of a law, where that is of its own crate, from
+-- `specs`.
 use Rattle.std.proofs.Common.{◌≡◌, ℕ, zero, suc, ◌+◌, ◌*◌, ◌^◌, ◌<◌, ◌≤◌, Bool, true, false, cond, not, ◌&&◌, ltb, leb, List, length, is_ok, Err, Result, sym, refl, ap, ◌∙◌, add-one, arith}
 use Rattle.std.proofs.lemmas.Nat.{pow-add}
 use Rattle.std.proofs.lemmas.Bool.{ltb-true, leb-false, and_parts, not-false, false≢true}

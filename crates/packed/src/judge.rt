@@ -56,8 +56,8 @@ impl File<'_> {
         first_one(self.bytes, end, self.bytes.len() * 8).is_some()
     }
 
-    // Whether some state has no step. A rule of the project asks for two loops and for the label: the outer one is left by it at the first
-    // state without a step, and the flag says so.
+    // Whether some state has no step. A rule of the project: two loops, of which the outer is left by its label at the first state without a
+    // step. The flag tells why it ended.
     fn has_dead_end(&self) -> bool
         ensures { result ≡ stuck narrow self.now.bytes.now }
     {

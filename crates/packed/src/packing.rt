@@ -52,7 +52,8 @@ fn file_size<M: Model>(model: &M) -> usize
     Header::of(model).size()
 }
 
-// Writes the model's file, which is as long as `file`.
+// Writes the model's file, which is as long as `file`. The two go through the functions below as well; a struct of them would be no plainer,
+// since only this function would make one.
 fn write_file<M: Model>(model: &M, file: &mut [u8])
     requires { length file.old ≡ length (file_of narrow (M.meaning model.now)) }
     ensures { file.new ≡ file_of narrow (M.meaning model.now) }

@@ -38,6 +38,7 @@ pub fn headline(bytes: &[u8], out: &mut [u8], scratch: &mut [u16]) -> Result<usi
 }
 
 // Writes the line of a model. That a length is within the slice is said here for `headline`, which owes it.
+// The two slices are what `headline` was lent; a struct of them would be no plainer.
 fn tell_model<M: Model>(model: &M, out: &mut [u8], scratch: &mut [u16]) -> Result<usize, Refusal>
     ensures value { let S = M.meaning model.now in result ≡ (if roomy S.states (length out.old) (length scratch.old) then Ok (length (model_line S)) else Err SliceTooSmall) }
     ensures after { let line = model_line (M.meaning model.now) in out.new ≡ (if is_ok result then line ++ drop (length line) out.old else out.old) }
