@@ -21,8 +21,8 @@ fn read_model(rt: &HostRuntime) -> anyhow::Result<Vec<u8>> {
 fn run(rt: &HostRuntime) -> anyhow::Result<()> {
     let bytes = read_model(rt)?;
     let mut room = [0; LINE_ROOM];
-    rt.stdout()
-        .write_all(first_line(bytes.as_slice(), &mut room))?;
+    let length = first_line(bytes.as_slice(), &mut room);
+    rt.stdout().write_all(&room[..length])?;
     Ok(())
 }
 

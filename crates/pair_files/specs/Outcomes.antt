@@ -1,5 +1,5 @@
 -- What a reader must believe: what becomes of two files.
-use Rattle.std.specs.Prelude.{◌≡◌, ℕ, ◌⊎◌, List, IsOk, Err}
+use Rattle.std.specs.Prelude.{◌≡◌, ℕ, ◌⊎◌, List, length, IsOk, Err}
 use Rattle.packed.specs.FileOf.{file_of}
 use Rattle.packed.specs.Layout.{narrow}
 use Rattle.packed.specs.Verdict.{verdict, opened}
@@ -20,12 +20,12 @@ module _ (first second : List ℕ) where
   abbrev pub Fits : Type 0
   Fits = Fit (opened narrow first) (opened narrow second)
 
-  -- the two files have a pair, and `file` is its file
-  abbrev pub IsPairOf : List ℕ → Type 0
-  IsPairOf file = Accepted × Fits × (file ≡ pair_file)
+  -- the two files have a pair, and its file has so many bytes
+  abbrev pub HasPair : ℕ → Type 0
+  HasPair size = Accepted × Fits × (size ≡ length pair_file)
 
   -- what is so where they have none: the first file is refused for this cause, or only the second is; or their models do not fit. This and
-  -- `IsPairOf` exclude one another, so that each answer comes exactly where it is so
+  -- `HasPair` exclude one another, so that each answer comes exactly where it is so
   abbrev pub Because : NoPair → Type 0
   Because (Refused cause) = (verdict narrow first ≡ Err cause) ⊎ (IsOk (verdict narrow first) × (verdict narrow second ≡ Err cause))
   Because Misfit = Accepted × (¬ Fits)

@@ -2,9 +2,9 @@
 // With OUT the packed pair is written there as well.
 #![tactic(auto)]
 
-ghost use Rattle.std.specs.Prelude.{◌≡◌, MatchResult};
-ghost use Rattle.pair_files.specs.Outcomes.{IsPairOf, Because};
-ghost use Rattle.pair_files.specs.declared.NoPair.TheVariants.{Refused};
+ghost use Rattle.std.specs.Prelude.{◌≡◌, ◌≤◌, ◌↔◌, ◌++◌, length, drop, is_ok, IsOk, IfOk, IsErrOf, MatchResult, if◌then◌else◌};
+ghost use Rattle.pair_files.specs.Outcomes.{pair_file, Accepted, Fits, HasPair, Because};
+ghost use Rattle.pair_files.specs.declared.NoPair.TheVariants.{Refused, Misfit};
 
 use anyhow::anyhow;
 use packed::{FILE_ROOM, Packed, pack};
@@ -51,7 +51,8 @@ fn write(rt: &HostRuntime, path: &str, bytes: &[u8]) -> anyhow::Result<()> {
 fn tell(rt: &HostRuntime, name: &str, bytes: &[u8]) -> anyhow::Result<()> {
     let mut room = [0; LINE_ROOM];
     print!(rt; "{name}: ")?;
-    rt.stdout().write_all(first_line(bytes, &mut room))?;
+    let length = first_line(bytes, &mut room);
+    rt.stdout().write_all(&room[..length])?;
     Ok(())
 }
 
@@ -75,21 +76,21 @@ fn tell_packed(rt: &HostRuntime, file: &[u8]) -> anyhow::Result<()> {
     Ok(())
 }
 
-// The file of the pair of the models of two files, written at the front of the room, in which every file has room.
-fn pack_pair<'a>(
-    first: &[u8],
-    second: &[u8],
-    room: &'a mut [u8; FILE_ROOM],
-) -> Result<&'a [u8], NoPair>
-    ensures { MatchResult result (λ file. IsPairOf first.now second.now file.now) (Because first.now second.now) }
+// Writes the file of the pair of the models of two files at the front of the room, in which every file has room, and gives its length.
+// As with `first_line`, the clauses say what the whole room then holds.
+fn pack_pair(first: &[u8], second: &[u8], room: &mut [u8; FILE_ROOM]) -> Result<usize, NoPair>
+    ensures answer { MatchResult result (HasPair first.now second.now) (Because first.now second.now) }
+    ensures pair { IsOk result ↔ (Accepted first.now second.now × Fits first.now second.now) }
+    ensures misfit { IsErrOf result Misfit ↔ (Accepted first.now second.now × (¬ Fits first.now second.now)) }
+    ensures after { let file = pair_file first.now second.now in room.new ≡ (if is_ok result then file ++ drop (length file) room.old else room.old) }
+    ensures within { IfOk result (λ n. n ≤ FILE_ROOM) }
 {
     let first = Packed::try_from(first)?;
     let second = Packed::try_from(second)?;
     if !fits(&first, &second) {
         return Err(NoPair::Misfit);
     }
-    let length = pack(&Pair::new(first, second), room).unwrap();
-    Ok(&room[..length])
+    Ok(pack(&Pair::new(first, second), room).unwrap())
 }
 
 fn run(rt: &HostRuntime) -> anyhow::Result<()> {
@@ -108,8 +109,8 @@ fn run(rt: &HostRuntime) -> anyhow::Result<()> {
     tell(rt, "first", first.as_slice())?;
     tell(rt, "second", second.as_slice())?;
     let mut room = [0; FILE_ROOM];
-    let file = match pack_pair(first.as_slice(), second.as_slice(), &mut room) {
-        Ok(file) => file,
+    let length = match pack_pair(first.as_slice(), second.as_slice(), &mut room) {
+        Ok(length) => length,
         Err(reason) => {
             if let NoPair::Misfit = reason {
                 println!(rt; "fits: no")?;
@@ -118,6 +119,7 @@ fn run(rt: &HostRuntime) -> anyhow::Result<()> {
         }
     };
     println!(rt; "fits: yes")?;
+    let file = &room[..length];
     tell_packed(rt, file)?;
     match out {
         Some(path) => write(rt, path.as_str(), file),

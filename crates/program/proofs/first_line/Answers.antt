@@ -16,5 +16,5 @@ opened_small bytes =
 always_suffices : (bytes : List ℕ) → suffices bytes 1024 1024 ≡ true
 always_suffices bytes = le-leb (4 * (opened narrow bytes).states) 1024 (omega (arith, opened_small bytes))
 
-pub unwrap-length-requires : goal.unwrap-length-requires
-unwrap-length-requires c = grind (arith, always_suffices c.args.bytes.now, c.headline.ensures.value)
+pub unwrap-requires : goal.unwrap-requires
+unwrap-requires c = grind (arith, always_suffices c.args.bytes.now, c.headline.ensures.value)
