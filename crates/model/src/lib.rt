@@ -10,9 +10,10 @@ pub trait Model {
     // The structure that the model stands for.
     ghost meaning: { Self → Structure };
 
-    // The number of states.
+    // The number of states. That the meaning keeps the limits is said here too, since who asks through a `dyn` cannot name the law `keeps`.
     fn states(&self) -> u16
-        ensures { result ≡ (meaning self.now).states };
+        ensures value { result ≡ (meaning self.now).states }
+        ensures keeps { Limits (meaning self.now) };
 
     // The starting state.
     fn start(&self) -> u16
@@ -33,6 +34,13 @@ pub trait Model {
 
     // Whatever a model of this kind means keeps the limits: each implementation has to prove it.
     ghost keeps: { (model : Self) → Limits (meaning model) };
+}
+
+// What who asks a model of an unknown kind learns of it.
+fn ask(model: &dyn Model) -> u16
+    ensures { Limits (meaning model.now) }
+{
+    model.states()
 }
 
 // The model with one state, no propositions, and a step to itself.

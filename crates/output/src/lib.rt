@@ -1,7 +1,7 @@
 // A line of output as a list of pieces, written into a lent slice of bytes.
 #![tactic(auto)]
 
-ghost use Rattle.std.specs.Prelude.{◌≡◌, ◌≤◌, ◌++◌, min, length, drop, if◌then◌else◌, Ok, Err, nat_le};
+ghost use Rattle.std.specs.Prelude.{◌≡◌, ◌≤◌, ◌++◌, length, drop, if◌then◌else◌, Some, None, Ok, Err, nat_le};
 ghost use Rattle.refusal.specs.declared.Refusal.TheVariants.{SliceTooSmall};
 ghost use Rattle.output.specs.Pieces.{spelled, spelled_all};
 
@@ -35,25 +35,26 @@ pub fn write_line(out: &mut [u8], pieces: &[Piece]) -> Result<usize, Refusal>
     ensures value { let text = spelled_all pieces.now in result ≡ (if nat_le (length text) (length out.old) then Ok (length text) else Err SliceTooSmall) }
     ensures after { let text = spelled_all pieces.now in out.new ≡ (if nat_le (length text) (length out.old) then text ++ drop (length text) out.old else out.old) }
 {
-    let total = measure(pieces);
-    if total > out.len() {
-        return Err(Refusal::SliceTooSmall);
-    }
+    let total = measure(pieces, out.len()).ok_or(Refusal::SliceTooSmall)?;
     put_pieces(out, pieces);
     Ok(total)
 }
 
-// The length of the pieces together, but at most `usize::MAX`. No slice is that long. A `fold` is no
-// plainer: its proof takes the lemma of the chain by hand, where the loop needs its invariant alone.
-fn measure(pieces: &[Piece]) -> usize
-    ensures { result ≡ min (length (spelled_all pieces.now)) usize.MAX }
+// The length of the pieces together, unless it is above `limit`: no piece after the first that passes it is looked at. A `fold` looks at
+// all of them, and the `ensures` of a `try_fold` does not prove.
+fn measure(pieces: &[Piece], limit: usize) -> Option<usize>
+    ensures { let text = spelled_all pieces.now in result ≡ (if nat_le (length text) limit then Some (length text) else None) }
 {
     let mut buffer = Buffer::new();
-    let mut total: usize = 0;
+    let mut total = 0;
     for piece in pieces {
-        total = total.saturating_add(piece.spell(&mut buffer).len());
+        let length = piece.spell(&mut buffer).len();
+        if length > limit - total {
+            return None;
+        }
+        total += length;
     }
-    total
+    Some(total)
 }
 
 // Writes the pieces at the front of `out`, which has room for them. To keep the rest of the slice in place of a number was tried: an
