@@ -38,7 +38,8 @@ pub trait Model {
 
 // What who asks a model of an unknown kind learns of it.
 fn ask(model: &dyn Model) -> u16
-    ensures { Limits (meaning model.now) }
+    ensures value { result ≡ (meaning model.now).states }
+    ensures keeps { Limits (meaning model.now) }
 {
     model.states()
 }

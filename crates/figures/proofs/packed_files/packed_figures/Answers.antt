@@ -1,17 +1,21 @@
 -- What the code says of each worked file is what the definitions say.
-use Rattle.std.proofs.Common.{[], ◌∷◌, ◌∙◌}
+use Rattle.std.proofs.Common.{[], ◌∷◌, ◌∙◌, ◌≡◌, Ok}
+use Rattle.packed.specs.Bits.{bit_of, bit_at, number_at}
+use Rattle.packed.specs.Layout.{states_of, start_of, propositions_of, row_of, bits_of, size_of}
+use Rattle.packed.specs.Verdict.{filled, stuck}
 use Rattle.figures.specs.Files.{spoken}
-use Rattle.figures.proofs.Worked.{two_states_accepted, two_states_open, still_accepted, still_open, three_states_accepted, three_states_drawn, full_accepted, full_drawn, loose_accepted, loose_drawn, sample_accepted, sample_drawn, reached_states, refused_files}
+use Rattle.figures.proofs.Worked.{two_states_open, still_open, three_states_drawn, full_drawn, loose_drawn, sample_drawn, reached_states, refused_files}
 use Rattle.figures.proofs.packed_files.packed_figures.Goals as goal
 
 pub returns : goal.returns
+unfolding bit_of bit_at number_at states_of start_of propositions_of row_of bits_of size_of filled stuck
 returns c =
-    let one = c.inspect.ensures.value ∙ two_states_accepted in
-    let two = c.inspect-2.ensures.value ∙ still_accepted in
-    let three = c.inspect-3.ensures.value ∙ three_states_accepted in
-    let four = c.inspect-4.ensures.value ∙ full_accepted in
-    let five = c.inspect-5.ensures.value ∙ loose_accepted in
-    let six = c.inspect-6.ensures.value ∙ sample_accepted in
+    let one : c.inspect.result ≡ Ok tt = c.inspect.ensures.value in
+    let two : c.inspect-2.result ≡ Ok tt = c.inspect-2.ensures.value in
+    let three : c.inspect-3.result ≡ Ok tt = c.inspect-3.ensures.value in
+    let four : c.inspect-4.result ≡ Ok tt = c.inspect-4.ensures.value in
+    let five : c.inspect-5.result ≡ Ok tt = c.inspect-5.ensures.value in
+    let six : c.inspect-6.result ≡ Ok tt = c.inspect-6.ensures.value in
     let seven = c.inspect-7.ensures.value ∙ refused_files.short in
     let eight = c.inspect-8.ensures.value ∙ refused_files.long in
     let nine = c.inspect-9.ensures.value ∙ refused_files.filling in
