@@ -1,27 +1,23 @@
 -- What the code says of each worked file is what the definitions say.
-use Rattle.std.proofs.Common.{[], ◌∷◌, ◌∙◌, ◌≡◌, Ok}
-use Rattle.packed.specs.Bits.{bit_of, bit_at, number_at}
-use Rattle.packed.specs.Layout.{states_of, start_of, propositions_of, row_of, bits_of, size_of}
-use Rattle.packed.specs.Verdict.{filled, stuck}
+use Rattle.std.proofs.Common.{[], ◌∷◌, ◌∙◌}
 use Rattle.figures.specs.Files.{spoken}
-use Rattle.figures.proofs.Worked.{two_states_open, still_open, three_states_drawn, full_drawn, loose_drawn, sample_drawn, reached_states, refused_files}
+use Rattle.figures.proofs.Worked.{two_states_accepted, two_states_open, still_accepted, still_open, three_states_accepted, three_states_drawn, full_accepted, full_drawn, loose_accepted, loose_drawn, sample_accepted, sample_drawn, reached_states, refused_files}
 use Rattle.figures.proofs.packed_files.packed_figures.Goals as goal
 
 pub returns : goal.returns
-unfolding bit_of bit_at number_at states_of start_of propositions_of row_of bits_of size_of filled stuck
 returns c =
-    let one : c.inspect.result ≡ Ok tt = c.inspect.ensures.value in
-    let two : c.inspect-2.result ≡ Ok tt = c.inspect-2.ensures.value in
-    let three : c.inspect-3.result ≡ Ok tt = c.inspect-3.ensures.value in
-    let four : c.inspect-4.result ≡ Ok tt = c.inspect-4.ensures.value in
-    let five : c.inspect-5.result ≡ Ok tt = c.inspect-5.ensures.value in
-    let six : c.inspect-6.result ≡ Ok tt = c.inspect-6.ensures.value in
-    let seven = c.inspect-7.ensures.value ∙ refused_files.short in
-    let eight = c.inspect-8.ensures.value ∙ refused_files.long in
-    let nine = c.inspect-9.ensures.value ∙ refused_files.filling in
-    let ten = c.inspect-10.ensures.value ∙ refused_files.first_filling in
-    let eleven = c.inspect-11.ensures.value ∙ refused_files.stray in
-    let twelve = c.inspect-12.ensures.value ∙ refused_files.stepless in
+    let one = c.judged.ensures ∙ two_states_accepted in
+    let two = c.judged-2.ensures ∙ still_accepted in
+    let three = c.judged-3.ensures ∙ three_states_accepted in
+    let four = c.judged-4.ensures ∙ full_accepted in
+    let five = c.judged-5.ensures ∙ loose_accepted in
+    let six = c.judged-6.ensures ∙ sample_accepted in
+    let seven = c.judged-7.ensures ∙ refused_files.short in
+    let eight = c.judged-8.ensures ∙ refused_files.long in
+    let nine = c.judged-9.ensures ∙ refused_files.filling in
+    let ten = c.judged-10.ensures ∙ refused_files.first_filling in
+    let eleven = c.judged-11.ensures ∙ refused_files.stray in
+    let twelve = c.judged-12.ensures ∙ refused_files.stepless in
     record {
       verdicts = λ i. one i ∷ two i ∷ three i ∷ four i ∷ five i ∷ six i ∷ seven i ∷ eight i ∷ nine i ∷ ten i ∷ eleven i ∷ twelve i ∷ [];
       numbers = λ i. spoken (one i) ∷ spoken (two i) ∷ spoken (three i) ∷ spoken (four i) ∷ spoken (five i) ∷ spoken (six i) ∷ spoken (seven i) ∷ spoken (eight i) ∷ spoken (nine i) ∷ spoken (ten i) ∷ spoken (eleven i) ∷ spoken (twelve i) ∷ [];
